@@ -1,0 +1,55 @@
+-- What is said of the bytes that `guard`, `campaign` and `demo` write.
+use Rattle.std.specs.Prelude.{◌≡◌, ℕ, ◌+◌, ◌*◌, List, ◌++◌, Ok, length}
+use Rattle.netlist_spec.specs.Netlist.{File}
+use Rattle.netlist_spec.specs.Reads.{Reads}
+use Rattle.netlist_spec.specs.Models.{data_inputs}
+use Rattle.netlist_spec.specs.SourceRun.{Stream}
+use Rattle.netlist_spec.specs.Runs.{Fault}
+use Rattle.netlist_spec.specs.Ordered.{cell_nets}
+use Rattle.netlist_spec.specs.Words.{Settings}
+use Rattle.netlist_spec.specs.SettingsFile.{settings_of_bytes}
+use Rattle.netlist_spec.specs.Stimulus.{stimulus_of}
+use Rattle.netlist_spec.specs.Containment.{IsGuard}
+use Rattle.netlist_spec.specs.Tally.{Tally, IsTally}
+use Rattle.netlist_spec.specs.Printed.{tally_text, demo_text}
+use Rattle.netlist_spec.specs.Demo.{demo_netlist, demo_settings, demo_stream, demo_cycle}
+use Rattle.netlist_spec.specs.WrittenText.{IsTextOf}
+
+-- What `guard` writes for settings and a source: a text with one reading, which is a guard of the source for the
+-- fault lists that are allowed with the bound.
+pub record IsGuardText (settings netlist text : List ℕ) (allowed : ℕ → List Fault → Type 0) : Type 0 where
+  pub s : Settings
+  pub is_settings : settings_of_bytes settings ≡ Ok s
+  pub source : File
+  pub is_source : Reads netlist source
+  pub g : File
+  pub text_of_g : IsTextOf text source g
+  pub guards : IsGuard g source s (allowed s.bound)
+
+-- What `campaign` writes: the five lines of a tally, and then the text of a guard. The tally is that of this guard, on the
+-- stream of the stimulus and for the source and the words for which it is a guard.
+pub record IsCampaignText (settings netlist stimulus text : List ℕ) (cycle : ℕ) (allowed : ℕ → List Fault → Type 0) : Type 0 where
+  pub cells : ℕ
+  pub tally : Tally
+  pub guard_text : List ℕ
+  pub written : text ≡ tally_text cells tally ++ guard_text
+  pub guarded : IsGuardText settings netlist guard_text allowed
+  pub xs : Stream
+  pub is_stream : stimulus_of (length (data_inputs guarded.guards.shaped.source_model)) stimulus ≡ Ok xs
+  pub is_tally : IsTally guarded.g guarded.source guarded.s guarded.guards.shaped.layout xs cycle tally
+  pub are_cells : cells ≡ length (cell_nets guarded.guards.shaped.guard_model)
+
+-- What `demo` writes for n: the numbers of statements and of latches of the design, its plain size, and the five lines of
+-- the tally of a guard of it. That guard has a text of which it is the one reading.
+pub record IsDemoText (n : ℕ) (text : List ℕ) (allowed : ℕ → List Fault → Type 0) : Type 0 where
+  pub cells : ℕ
+  pub tally : Tally
+  pub written : text ≡ demo_text (13 * n) (4 * n) (4720 * n + 4) ++ tally_text cells tally
+  pub source : File
+  pub is_source : Reads (demo_netlist n) source
+  pub guard_text : List ℕ
+  pub g : File
+  pub text_of_g : IsTextOf guard_text source g
+  pub guards : IsGuard g source demo_settings (allowed demo_settings.bound)
+  pub is_tally : IsTally g source demo_settings guards.shaped.layout (demo_stream n) demo_cycle tally
+  pub are_cells : cells ≡ length (cell_nets guards.shaped.guard_model)
