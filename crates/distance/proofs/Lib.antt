@@ -1,0 +1,4 @@
+pub mod Least
+pub mod PairLemmas
+pub mod LevelLemmas
+pub mod PatternLemmas
