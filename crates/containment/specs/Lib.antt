@@ -1,0 +1,14 @@
+pub mod Nets
+pub mod Built
+pub mod OnGates
+pub mod Cycles
+pub mod OneCycle
+pub mod Written
+pub mod Texts
+pub mod Far
+pub mod RegionAnswers
+pub mod Toggle
+pub mod Wire
+pub mod WrongGuards
+pub mod Refused
+pub mod Outcomes
