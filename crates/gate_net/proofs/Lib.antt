@@ -1,0 +1,6 @@
+pub mod Evaluation
+pub mod Machines
+pub mod Nets
+pub mod OneEvaluation
+pub mod Ranges
+pub mod Written

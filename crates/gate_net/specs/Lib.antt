@@ -1,0 +1,5 @@
+pub mod Bit
+pub mod Gate
+pub mod GateNet
+pub mod Machine
+pub mod Written
