@@ -1,0 +1,5 @@
+pub mod LineText
+pub mod Quantities
+pub mod Reading
+pub mod Tokens
+pub mod Names
