@@ -1,0 +1,4 @@
+pub mod PiecesLemmas
+pub mod ThinTextLemmas
+pub mod GatheredLemmas
+pub mod ReadLemmas
