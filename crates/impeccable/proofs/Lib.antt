@@ -1,0 +1,4 @@
+pub mod AnswersLemmas
+pub mod PortLemmas
+pub mod StopLemmas
+pub mod WriteLemmas

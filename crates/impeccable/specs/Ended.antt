@@ -1,0 +1,46 @@
+-- How a command ended as plain data, and what is put to the error output.
+use Rattle.std.specs.Prelude.{◌≡◌, ℕ, List, ◌++◌, ◌∷◌, [], Result, MatchOption}
+use Rattle.std.specs.List.{flat_map}
+use Rattle.std.specs.Io.KnownBytes.{Appends}
+use Rattle.imp_io.specs.Counts.{Stayed}
+use Rattle.imp_io.specs.Sink.{SinkSeen, AppendsPrefix, Puts}
+use Rattle.imp_io.specs.declared.fault.SinkFault.{SinkFault}
+use Rattle.netlist_spec.specs.ErrorLines.{Answer, done, usage, refused, read_fault, write_fault, no_memory, answer_line, escape}
+use Rattle.impeccable.specs.declared.ended.Ended.{Ended}
+use Rattle.impeccable.specs.declared.ended.Ended.TheVariants.{Done, Usage, Refused, ReadFault, WriteFault, NoMemory}
+use Rattle.impeccable.specs.declared.outcome.Outcome.{Outcome}
+use Rattle.impeccable.specs.declared.outcome.Outcome.TheVariants.{Done as ADone, Usage as AUsage, Refused as ARefused, ReadFault as AReadFault, WriteFault as AWriteFault, NoMemory as ANoMemory}
+use Rattle.impeccable.specs.Outcome.{refusal_of}
+
+abbrev pub answer_of : Ended → Answer
+answer_of Done = done
+answer_of Usage = usage
+answer_of (Refused told) = refused (refusal_of told)
+answer_of (ReadFault name) = read_fault name.now
+answer_of WriteFault = write_fault
+answer_of NoMemory = no_memory
+
+abbrev pub outcome_of : Ended → Outcome
+outcome_of Done = ADone
+outcome_of Usage = AUsage
+outcome_of (Refused told) = ARefused told
+outcome_of (ReadFault name) = AReadFault
+outcome_of WriteFault = AWriteFault
+outcome_of NoMemory = ANoMemory
+
+-- a text, a name as it is printed, and the end of the line
+abbrev pub named_line : List ℕ → List ℕ → List ℕ
+named_line front name = front ++ flat_map escape name ++ 10 ∷ []
+
+-- The line was put, or a prefix of it at the first put that failed.
+abbrev pub PutsAnswer : {T : Type 0} → Answer → SinkSeen → Result T SinkFault → SinkSeen → Type 0
+PutsAnswer answer old result new = MatchOption (answer_line answer) (new ≡ old) (λ line. Puts old line result new)
+
+-- A prefix of the line stands there, and the whole line where no put failed or found no memory.
+pub record SaysLine (line : List ℕ) (old new : SinkSeen) : Type 0 where
+  pub prefix : AppendsPrefix old.written new.written line
+  pub whole : Stayed old.faults new.faults → Stayed old.denied new.denied → Appends old.written new.written line
+
+-- the line of the answer is told, and a success tells nothing
+abbrev pub Says : Answer → SinkSeen → SinkSeen → Type 0
+Says answer old new = MatchOption (answer_line answer) (new ≡ old) (λ line. SaysLine line old new)

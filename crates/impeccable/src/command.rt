@@ -1,0 +1,23 @@
+// What the words of the command line ask for.
+ghost use Rattle.std.specs.Prelude.{◌≡◌, map, string_bytes};
+ghost use Rattle.std.specs.Option.{option_map};
+ghost use Rattle.netlist_spec.specs.Commands.{command_of};
+ghost use Rattle.impeccable.specs.Command.{as_asked};
+
+/// A command with the names of its files.
+#[derive(Clone, Copy, Debug)]
+pub(crate) enum Command<'a> {
+    Flat { netlist: &'a str },
+}
+
+/// The command that the words spell, if they spell one.
+pub(crate) fn read_command<'a>(words: &'a [String]) -> Option<Command<'a>>
+    ensures { option_map as_asked result ≡ command_of (map string_bytes words.now) }
+{
+    match words {
+        [first, netlist] if first.as_str() == "flat" => Some(Command::Flat {
+            netlist: netlist.as_str(),
+        }),
+        _ => None,
+    }
+}

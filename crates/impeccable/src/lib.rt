@@ -1,0 +1,16 @@
+//! The program as one call: words and files in, a text and an outcome out.
+#![tactic(auto)]
+
+mod command;
+mod ended;
+mod flat;
+mod load;
+mod outcome;
+mod program;
+mod stop;
+
+pub use outcome::{Outcome, Refusal};
+pub use program::run;
+
+#[cfg(test)]
+mod tests;
