@@ -5,9 +5,9 @@ top=$(CDPATH='' cd -- "$(dirname -- "$0")/.." && pwd) && cd "$top/crates/impecca
 for name in ${*:-empty wires inverter}; do
     n=1
     while :; do
-        answer=$(rt try --fail-alloc "$n" --data "$name.blif=$top/examples/$name.blif" -- flat "$name.blif" 2>/dev/null)
+        answer=$(rt try --fail-alloc "$n" --data "$name.blif=$top/examples/$name.blif" -- flat "$name.blif" 2>&1)
         status=$(printf '%s\n' "$answer" | sed -n 's/^checked: ended status=\([0-9]*\).*/\1/p')
-        written=$(printf '%s\n' "$answer" | sed '/^allocations:/d; /^checked:/d; /^run=/d' | wc -c)
+        written=$(printf '%s\n' "$answer" | sed '/^allocations:/d; /^checked:/d; /^run=/d; /^impeccable: /d; /^rt: /d' | wc -c)
         echo "$name.blif, allocation $n refused: status $status, about $written bytes written"
         [ "$status" = 5 ] || break
         n=$((n + 1))
