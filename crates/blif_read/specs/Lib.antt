@@ -4,3 +4,7 @@ pub mod PortLists
 pub mod ThinPorts
 pub mod View
 pub mod Thin
+pub mod Faults
+pub mod Kinds
+pub mod LineTests
+pub mod Summaries
