@@ -1,0 +1,5 @@
+pub mod Labels
+pub mod Named
+pub mod Refusals
+pub mod Lines
+pub mod Numbers

@@ -1,0 +1,20 @@
+//! Gate lists with names, and the text in Berkeley BLIF that they are written as.
+#![tactic(auto)]
+
+mod cover;
+mod file;
+mod label;
+mod lines;
+mod named;
+mod numbers;
+mod refusal;
+mod rows;
+#[cfg(test)]
+mod tests;
+mod text;
+
+pub use file::as_file;
+pub use label::Label;
+pub use named::Named;
+pub use refusal::WriteRefusal;
+pub use text::write;
