@@ -7,7 +7,7 @@ for name in ${*:-empty wires inverter}; do
     while :; do
         answer=$(rt try --fail-alloc "$n" --data "$name.blif=$top/examples/$name.blif" -- flat "$name.blif" 2>&1)
         status=$(printf '%s\n' "$answer" | sed -n 's/^checked: ended status=\([0-9]*\).*/\1/p')
-        written=$(printf '%s\n' "$answer" | sed '/^allocations:/d; /^checked:/d; /^run=/d; /^impeccable: /d; /^rt: /d' | wc -c)
+        written=$(printf '%s\n' "$answer" | sed '/^allocations:/d; /^checked:/d; /^run=/d; /^interpreter: /d; /^impeccable: /d; /^rt: /d' | wc -c)
         echo "$name.blif, allocation $n refused: status $status, about $written bytes written"
         [ "$status" = 5 ] || break
         n=$((n + 1))
