@@ -45,7 +45,7 @@ fresh_case : (b c : Bool) (x y z : Bool) → (c ≡ false → y ≡ z) → (b ||
 fresh_case true c x y z f h = cc h
 fresh_case false c x y z f h = f h
 
-itself : (n : Name) → same_name n n ≡ true
+pub itself : (n : Name) → same_name n n ≡ true
 itself n = (bytes_decides n n).1 refl
 
 -- a value that is added for a new name is that of the name
@@ -101,7 +101,7 @@ once_more n earlier (a_statement (latch d q clocking init)) h r =
     omega arith
 once_more n earlier (a_statement (subckt model binds)) h r = omega arith
 
-drives_once : (m : Model) (earlier : List Item) (i : Item) → item_fault m earlier i ≡ None → is_driven_again earlier i.what ≡ false
+pub drives_once : (m : Model) (earlier : List Item) (i : Item) → item_fault m earlier i ≡ None → is_driven_again earlier i.what ≡ false
 drives_once m earlier i e =
     let sound = no_fault_cases (is_subckt i.what) (is_at_fault m earlier i.what) i.line e in
     (fails_first _ _ (fails_first _ _ (fails_first _ _ sound).0).0).0
@@ -145,15 +145,15 @@ cells_split n (i ∷ items) =
     let e = cells_split n items in
     omega arith
 
-ports_give : (g : Declared → List Name) (kind : Name → Declared) → ((k : Name) → g (kind k) ≡ k ∷ []) → (ps : List Port) → flat_map (λ i. g i.what) (port_items kind ps) ≡ port_names ps
+pub ports_give : (g : Declared → List Name) (kind : Name → Declared) → ((k : Name) → g (kind k) ≡ k ∷ []) → (ps : List Port) → flat_map (λ i. g i.what) (port_items kind ps) ≡ port_names ps
 ports_give g kind e [] = refl
 ports_give g kind e (p ∷ ps) = ap (λ ns. ns ++ flat_map (λ i. g i.what) (port_items kind ps)) (e p.name) ∙ ap (λ ns. p.name ∷ ns) (ports_give g kind e ps)
 
-ports_none : (g : Declared → List Name) (kind : Name → Declared) → ((k : Name) → g (kind k) ≡ []) → (ps : List Port) → flat_map (λ i. g i.what) (port_items kind ps) ≡ []
+pub ports_none : (g : Declared → List Name) (kind : Name → Declared) → ((k : Name) → g (kind k) ≡ []) → (ps : List Port) → flat_map (λ i. g i.what) (port_items kind ps) ≡ []
 ports_none g kind e [] = refl
 ports_none g kind e (p ∷ ps) = ap (λ ns. ns ++ flat_map (λ i. g i.what) (port_items kind ps)) (e p.name) ∙ ports_none g kind e ps
 
-statements_none : (g : Declared → List Name) → ((s : Statement) → g (a_statement s) ≡ []) → (ss : List Located) → flat_map (λ i. g i.what) (statement_items ss) ≡ []
+pub statements_none : (g : Declared → List Name) → ((s : Statement) → g (a_statement s) ≡ []) → (ss : List Located) → flat_map (λ i. g i.what) (statement_items ss) ≡ []
 statements_none g e [] = refl
 statements_none g e (s ∷ ss) = ap (λ ns. ns ++ flat_map (λ i. g i.what) (statement_items ss)) (e s.what) ∙ statements_none g e ss
 
@@ -166,7 +166,7 @@ statement_latches : (ss : List Located) → flat_map (λ i. declared_latch i.wha
 statement_latches [] = refl
 statement_latches (s ∷ ss) = ap (λ ns. declared_latch (a_statement s.what) ++ ns) (statement_latches ss) ∙ one_latch s.what (filter_map (λ s. as_latch s.what) ss)
 
-in_lists : (g : Declared → List Name) (m : Model) (n : Name) → occ n (flat_map (λ i. g i.what) (items_of m)) ≡ occ n (flat_map (λ i. g i.what) (port_items (λ k. an_input k) m.inputs)) + occ n (flat_map (λ i. g i.what) (port_items (λ k. an_output k) m.outputs))
+pub in_lists : (g : Declared → List Name) (m : Model) (n : Name) → occ n (flat_map (λ i. g i.what) (items_of m)) ≡ occ n (flat_map (λ i. g i.what) (port_items (λ k. an_input k) m.inputs)) + occ n (flat_map (λ i. g i.what) (port_items (λ k. an_output k) m.outputs))
     + occ n (flat_map (λ i. g i.what) (port_items (λ k. a_clock k) m.clocks)) + occ n (flat_map (λ i. g i.what) (statement_items m.statements))
 in_lists g m n =
     let f : Item → List Name = λ i. g i.what in
@@ -194,7 +194,7 @@ latches_total m n =
     let e : occ n (flat_map (λ i. declared_latch i.what) (port_items (λ k. a_clock k) m.clocks)) ≡ 0 = ap (occ n) (ports_none declared_latch (λ k. a_clock k) (λ k. refl) m.clocks) in
     omega arith
 
-filter_occ : (n : Name) (p : Name → Bool) (ns : List Name) → occ n (filter p ns) ≤ occ n ns
+pub filter_occ : (n : Name) (p : Name → Bool) (ns : List Name) → occ n (filter p ns) ≤ occ n ns
 filter_occ n p [] = omega arith
 filter_occ n p (k ∷ ks) = go (p k) (filter_occ n p ks)
   where
@@ -202,7 +202,7 @@ filter_occ n p (k ∷ ks) = go (p k) (filter_occ n p ks)
     go true h = omega arith
     go false h = omega arith
 
-no_occ : (n : Name) (ns : List Name) → occ n ns ≡ 0 → stands_in n ns ≡ false
+pub no_occ : (n : Name) (ns : List Name) → occ n ns ≡ 0 → stands_in n ns ≡ false
 no_occ n ns h = go (stands_in n ns) refl
   where
     go : (b : Bool) → stands_in n ns ≡ b → b ≡ false
@@ -211,7 +211,7 @@ no_occ n ns h = go (stands_in n ns) refl
 
 module _ (m : Model) (ordered : first_answer (item_fault m) [] (items_of m) ≡ None) where
   -- inputs, latches and gates drive a name once in all
-  once : (n : Name) → (occ n (port_names m.inputs) + occ n (latch_outputs m)) + occ n (gates_among (items_of m)) ≤ 1
+  pub once : (n : Name) → (occ n (port_names m.inputs) + occ n (latch_outputs m)) + occ n (gates_among (items_of m)) ≤ 1
   once n =
       let t : occ n (flat_map driven_of (items_of m)) ≤ 1 = once_along m n [] (items_of m) ordered (omega arith) in
       let a = driven_split n (items_of m) in

@@ -6,11 +6,15 @@ use Rattle.netlist_spec.specs.Digits.{decimal_of}
 -- a command with the names of its files
 pub data Command : Type 0 where
   flat : (netlist : List ℕ) → Command
+  code : (settings : List ℕ) → Command
 
 -- The command that the words spell: the first word and the number of words must be its own. Words of a command
 -- that isn't built yet spell none.
 abbrev pub command_of : List (List ℕ) → Option Command
-command_of (word ∷ netlist ∷ []) = if same_name word (codes "flat") then Some (flat netlist) else None
+command_of (word ∷ file ∷ []) =
+    if same_name word (codes "flat") then Some (flat file)
+    else if same_name word (codes "code") then Some (code file)
+    else None
 command_of _ = None
 
 -- how many bytes a netlist may have, and how many each other file
@@ -28,6 +32,7 @@ pub record NamedFile : Type 0 where
 -- the files of a command, in the order of their loads
 abbrev pub files_of : Command → List NamedFile
 files_of (flat netlist) = record { name = netlist; limit = netlist_limit } ∷ []
+files_of (code settings) = record { name = settings; limit = other_limit } ∷ []
 
 -- The cycle of a campaign is 1 to 6 digits; the size of a demo is 1 or 2 digits with a value from 1 to 64.
 abbrev pub is_cycle : List ℕ → Bool

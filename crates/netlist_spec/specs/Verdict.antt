@@ -12,13 +12,14 @@ use Rattle.netlist_spec.specs.Ordered.{order_fault, cell_nets}
 use Rattle.netlist_spec.specs.Codes.{needed_distance, IsDistance}
 use Rattle.netlist_spec.specs.Words.{Settings, Layout, IsLayout, layout_fault}
 use Rattle.netlist_spec.specs.Plain.{IsPlain}
-use Rattle.netlist_spec.specs.SettingsFile.{settings_of_bytes}
+use Rattle.netlist_spec.specs.SettingsFile.{settings_of_bytes, settings_without_library_of}
 use Rattle.netlist_spec.specs.SourceRun.{Stream}
 use Rattle.netlist_spec.specs.Runs.{Fault}
 use Rattle.netlist_spec.specs.Stimulus.{stimulus_of, script_of}
-use Rattle.netlist_spec.specs.Thin.{IsThin}
+use Rattle.netlist_spec.specs.FlatReady.{IsFlatReady}
 use Rattle.netlist_spec.specs.WrittenText.{IsFlatText}
-use Rattle.netlist_spec.specs.Commands.{Command, flat, netlist_limit, other_limit}
+use Rattle.netlist_spec.specs.Printed.{IsReport}
+use Rattle.netlist_spec.specs.Commands.{Command, flat, code, netlist_limit, other_limit}
 use Rattle.netlist_spec.specs.Refusals.{Refusal, not_yet, file_too_long, unreadable, bad_settings, too_small, unsound, bad_layout, guard_too_large, out_of_order, bad_stimulus, bad_script_line}
 
 -- what the files hold: the bytes of each name that is held
@@ -45,15 +46,15 @@ Loads contents name most next verdict =
     MatchOption (contents name) (verdict ≡ not_held name)
     (λ bytes. MatchBool (nat_lt most (length bytes)) (verdict ≡ refused (file_too_long name)) (next bytes verdict))
 
--- Until the whole language is read, a netlist that isn't thin is refused.
-abbrev pub ThinThen : List ℕ → (File → After) → After
-ThinThen bytes next verdict =
-    ((file : File) × IsThin bytes file × next file verdict) ⊎ (((file : File) → IsThin bytes file → ⊥) × (verdict ≡ refused not_yet))
-
 -- The bytes are read as a file, or refused with a line.
 abbrev pub ReadsThen : List ℕ → (File → After) → After
 ReadsThen bytes next verdict =
     ((file : File) × Reads bytes file × next file verdict) ⊎ MatchOption (read_fault bytes) ⊥ (λ f. verdict ≡ refused (unreadable f))
+
+-- Until sub-models, clocks and wide covers are elaborated, a netlist that isn't ready for that is refused.
+abbrev pub FlatReadyThen : File → After → After
+FlatReadyThen file next verdict =
+    (IsFlatReady file × next verdict) ⊎ ((IsFlatReady file → ⊥) × (verdict ≡ refused not_yet))
 
 -- The file is sound with the library, or refused.
 abbrev pub SoundThen : File → Library → After → After
@@ -62,6 +63,11 @@ SoundThen file library next verdict =
 
 abbrev pub SettingsThen : List ℕ → (Settings → After) → After
 SettingsThen bytes next verdict = MatchResult (settings_of_bytes bytes) (λ s. next s verdict) (λ f. verdict ≡ refused (bad_settings f))
+
+-- The same, until tables and layers are read.
+abbrev pub SettingsWithoutLibraryThen : List ℕ → (Settings → After) → After
+SettingsWithoutLibraryThen text next verdict =
+    MatchResult (settings_without_library_of text) (λ s. next s verdict) (λ f. verdict ≡ refused (bad_settings f))
 
 -- The distance is at least what the mode and the bound ask for.
 abbrev pub StrongThen : Settings → After → After
@@ -103,10 +109,10 @@ GuardThen contents settings netlist next =
 
 abbrev pub FlatVerdict : Contents → List ℕ → After
 FlatVerdict contents netlist =
-    Loads contents netlist netlist_limit (λ bytes. ThinThen bytes (λ file. Passes))
+    Loads contents netlist netlist_limit (λ bytes. ReadsThen bytes (λ file. FlatReadyThen file Passes))
 
 abbrev pub CodeVerdict : Contents → List ℕ → After
-CodeVerdict contents settings = Loads contents settings other_limit (λ text. SettingsThen text (λ s. Passes))
+CodeVerdict contents settings = Loads contents settings other_limit (λ text. SettingsWithoutLibraryThen text (λ s. Passes))
 
 abbrev pub GuardVerdict : Contents → List ℕ → List ℕ → After
 GuardVerdict contents settings netlist = GuardThen contents settings netlist (λ file s m l. Passes)
@@ -135,14 +141,20 @@ CampaignVerdict contents settings netlist stimulus =
 -- The verdict of a command.
 abbrev pub IsVerdict : Command → Contents → After
 IsVerdict (flat netlist) contents = FlatVerdict contents netlist
+IsVerdict (code settings) contents = CodeVerdict contents settings
 
 -- The walk comes to the load of that name: all steps before it pass. So it ends there where the file isn't held.
 abbrev pub ComesToLoad : Command → Contents → List ℕ → Type 0
 ComesToLoad command contents name = IsVerdict command (without name contents) (not_held name)
 
+-- The report on the code of the settings.
+abbrev pub IsReportText : List ℕ → List ℕ → Type 0
+IsReportText bytes text = MatchResult (settings_without_library_of bytes) (λ s. IsReport s.code text) (λ f. ⊥)
+
 -- A text that the command may write over these contents, where its verdict passes.
 abbrev pub IsTextFor : Command → Contents → List ℕ → Type 0
 IsTextFor (flat netlist) contents text = IsSomeAnd (contents netlist) (λ bytes. IsFlatText bytes text empty_library)
+IsTextFor (code settings) contents text = IsSomeAnd (contents settings) (λ bytes. IsReportText bytes text)
 
 -- A pair of files is accepted where the verdict of `guard` over them passes.
 abbrev pub IsAccepted : Contents → List ℕ → List ℕ → Type 0

@@ -21,7 +21,7 @@ ghost use Rattle.netlist_spec.specs.SettingsFile.{IsSettings, bad_shape, bad_val
 ghost use Rattle.netlist_spec.specs.Covers.{IsLibrary, Library, empty_library};
 ghost use Rattle.netlist_spec.specs.SoundFaults.{IsRefusedWith, SoundFault, bad_clocking, loop, recursion, reserved, too_deep, twice, undriven};
 ghost use Rattle.netlist_spec.specs.Sound.{IsSound};
-ghost use Rattle.netlist_spec.specs.Commands.{command_of, flat, is_cycle, is_demo_size};
+ghost use Rattle.netlist_spec.specs.Commands.{code, command_of, flat, is_cycle, is_demo_size};
 ghost use Rattle.netlist_spec.specs.Verdict.{IsAccepted};
 ghost use Rattle.netlist_spec.specs.Shaped.{check_outputs, guard_latches, rail_outputs};
 ghost use Rattle.netlist_spec.specs.Codes.{apart, correct, detect};
@@ -50,8 +50,9 @@ ghost use Rattle.netlist_spec.specs.WrittenText.{IsFlatText};
 pub use readings::{first_faulty_line_decides, texts_are_read_or_refused};
 pub use sources::small_sources_are_taken;
 pub use thin::{
-    commands_have_one_verdict, flat_comes_to_its_netlist, thin_files_are_flattened,
-    thin_files_are_read, thin_texts_have_ports_alone, written_lines_are_cut_back,
+    code_comes_to_its_settings, commands_have_one_verdict, flat_comes_to_its_netlist,
+    thin_files_are_flattened, thin_files_are_read, thin_texts_have_ports_alone,
+    written_lines_are_cut_back,
 };
 
 /// Two small texts say the files that a reader of BLIF expects.
@@ -248,6 +249,7 @@ pub fn small_lines_are_printed()
 /// Words that spell a command, and words that spell none.
 pub fn small_words_are_commands()
     ensures flat { command_of (codes "flat" ∷ codes "a" ∷ []) ≡ Some (flat (codes "a")) }
+    ensures code { command_of (codes "code" ∷ codes "a" ∷ []) ≡ Some (code (codes "a")) }
     ensures none { command_of [] ≡ None }
     ensures few { command_of (codes "flat" ∷ []) ≡ None }
     ensures many { command_of (codes "flat" ∷ codes "a" ∷ codes "b" ∷ []) ≡ None }

@@ -2,7 +2,7 @@
 
 ghost use Rattle.std.specs.Prelude.{◌≡◌, ℕ, ◌^◌, ◌<◌, ◌++◌, ◌↔◌, [], ◌∷◌, List, codes};
 ghost use Rattle.std.specs.List.{AllByRecursion, flat_map};
-ghost use Rattle.netlist_spec.specs.Commands.{Command, flat};
+ghost use Rattle.netlist_spec.specs.Commands.{Command, code, flat};
 ghost use Rattle.netlist_spec.specs.Covers.{empty_library};
 ghost use Rattle.netlist_spec.specs.WrittenText.{IsFlatText};
 ghost use Rattle.netlist_spec.specs.Lines.{logical_lines};
@@ -63,4 +63,9 @@ pub fn commands_have_one_verdict()
 /// `flat` comes to the load of its netlist, and to no other.
 pub fn flat_comes_to_its_netlist()
     ensures { (netlist name : List ℕ) (contents : Contents) → ComesToLoad (flat netlist) contents name ↔ (name ≡ netlist) }
+{}
+
+/// `code` comes to the load of its settings, and to no other.
+pub fn code_comes_to_its_settings()
+    ensures { (settings name : List ℕ) (contents : Contents) → ComesToLoad (code settings) contents name ↔ (name ≡ settings) }
 {}
