@@ -1,8 +1,8 @@
-pub mod PiecesLemmas
-pub mod ThinTextLemmas
-pub mod GatheredLemmas
-pub mod ReadLemmas
 pub mod WordTests
 pub mod SummaryLemmas
 pub mod FewWords
 pub mod ReaderLemmas
+pub mod SpelledLemmas
+pub mod RowLemmas
+pub mod BuildingLemmas
+pub mod FileLemmas

@@ -1,11 +1,11 @@
 -- The steps of the reader.
-use Rattle.std.proofs.Common.{◌≡◌, ◌<◌, ◌≤◌, ◌+◌, ◌^◌, ℕ, Bool, true, false, cond, ◌||◌, List, [], ◌∷◌, ◌++◌, length, refl, sym, ap, ◌∙◌, arith, Option, None, Some, append_assoc, append-nil, subst, length-append}
+use Rattle.std.proofs.Common.{◌≡◌, ◌<◌, ◌≤◌, ◌+◌, ◌^◌, ℕ, Bool, true, false, cond, ◌||◌, List, [], ◌∷◌, ◌++◌, length, refl, sym, ap, ◌∙◌, arith, Option, None, Some, append-nil, subst, length-append}
 use Rattle.std.specs.List.{AllByRecursion, list_any}
 use Rattle.std.proofs.lemmas.Bool.{both_ways, not-false}
 use Rattle.std.proofs.lemmas.List.{length-map}
 use Rattle.netlist_spec.specs.Lines.{Word, Line, is_empty, logical_lines}
-use Rattle.netlist_spec.specs.ReadFaults.{ReadFault, no_model, Kind, model_kind, kind_of, is_kind, arguments, line_fault, fault_from, read_fault, model_names}
-use Rattle.netlist_spec.proofs.FirstFault.{first_passes, still_no_fault, text_fault_here, text_without_lines, text_has_no_fault}
+use Rattle.netlist_spec.specs.ReadFaults.{ReadFault, no_model, Kind, model_kind, kind_of, is_kind, arguments, fault_from, read_fault, model_names}
+use Rattle.netlist_spec.proofs.FirstFault.{first_passes, text_fault_here, text_without_lines, text_has_no_fault}
 use Rattle.netlist_spec.proofs.LineWords.{lines_have_words}
 use Rattle.netlist_spec.proofs.SaidLines.{HasWords}
 use Rattle.netlist_spec.proofs.Passes.{line_passes}
@@ -16,8 +16,8 @@ use Rattle.imp_text.specs.declared.token.Token.{Token}
 use Rattle.blif_read.specs.declared.summary.Summary.{Summary}
 use Rattle.blif_read.specs.LineTests.{HasByte, words_in}
 use Rattle.blif_read.specs.Faults.{IsFault}
-use Rattle.blif_read.specs.Summaries.{fault_by, IsAfter, Summarizes}
-use Rattle.blif_read.proofs.SummaryLemmas.{fault_is, known_after}
+use Rattle.blif_read.specs.Summaries.{fault_by, Summarizes}
+use Rattle.blif_read.proofs.SummaryLemmas.{fault_is}
 use Rattle.blif_read.proofs.FewWords.{word_count, word_count-append, few_in_text}
 
 -- The lines so far have no fault and are summarized, and the others are left.
@@ -27,28 +27,6 @@ pub record IsSoFar (bytes : List ℕ) (reading : Reading) (s : Summary) : Type 0
   pub split : logical_lines bytes ≡ earlier ++ reading.left
   pub none : fault_from [] earlier ≡ None
   pub known : Summarizes earlier s
-
-pub so_far_at_start : (bytes : List ℕ) (reading : Reading) (s : Summary) → reading ≡ record { source = bytes; left = logical_lines bytes } → Summarizes [] s → IsSoFar bytes reading s
-so_far_at_start bytes reading s is known =
-    record {
-      source = ap (λ (r : Reading). r.source) is;
-      earlier = [];
-      split = sym (ap (λ (r : Reading). r.left) is);
-      none = refl;
-      known = known;
-    }
-
--- one line more that passes
-pub so_far_more : (bytes : List ℕ) (old new : Reading) (s t : Summary) (k : Kind) (l : Line) → IsSoFar bytes old s → old.left ≡ l ∷ new.left → new.source ≡ old.source → kind_of l ≡ k → fault_by s k l ≡ None → IsAfter s k l t → IsSoFar bytes new t
-so_far_more bytes old new s t k l is first source e passes after =
-    let none : line_fault is.earlier l ≡ None = fault_is is.earlier s k l e is.known ∙ passes in
-    record {
-      source = source ∙ is.source;
-      earlier = is.earlier ++ l ∷ [];
-      split = is.split ∙ (ap (λ ls. is.earlier ++ ls) first ∙ sym (append_assoc is.earlier (l ∷ []) new.left));
-      none = still_no_fault is.earlier l is.none none;
-      known = known_after is.earlier s t k l e is.known none after;
-    }
 
 -- a line that fails
 pub so_far_fails : (bytes : List ℕ) (old new : Reading) (s : Summary) (k : Kind) (l : Line) (fault : Option ReadFault) → IsSoFar bytes old s → old.left ≡ l ∷ new.left → kind_of l ≡ k → IsFault (fault_by s k l) fault → IsFault (read_fault bytes) fault

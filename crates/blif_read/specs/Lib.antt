@@ -1,10 +1,8 @@
 pub mod Ids
-pub mod PortLines
-pub mod PortLists
-pub mod ThinPorts
 pub mod View
-pub mod Thin
 pub mod Faults
 pub mod Kinds
 pub mod LineTests
 pub mod Summaries
+pub mod Spelled
+pub mod Building
