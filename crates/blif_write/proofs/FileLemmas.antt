@@ -26,17 +26,11 @@ use Rattle.blif_read.specs.Ids.{IsIdOf, control_ids, ids_in}
 use Rattle.imp_text.specs.Names.{with_name}
 use Rattle.blif_read.specs.View.{name_at, port_of, model_of, clocking_of, cover_of, statement_of, located_of}
 use Rattle.imp_text.proofs.NamesLemmas.{slice_get-append_left}
-use Rattle.blif_write.specs.Numbers.{with_names, AreNumbers, ports_numbered, Spells, SpellsEach, latch_of, names_of, latch_with, gate_with, statement_at}
+use Rattle.blif_read.specs.Spelled.{with_names, AreNumbers, Spells, SpellsEach}
+use Rattle.blif_write.specs.Numbers.{ports_numbered, latch_of, names_of, latch_with, gate_with, statement_at}
 use Rattle.blif_write.proofs.NamedFiles.{latch_written, gate_written, numbered_latches, numbered_gates, statements-numbered}
-use Rattle.blif_write.proofs.NumberLemmas.{name-is, names-are, number-later, numbers-later, numbers-within, all-at, with_names-grows, with_names-append, with_names-first, ports-named, ports-within}
-
-all_cons : {A : Type 0} (P : A → Type 0) (x : A) (xs : List A) → P x → All P xs → All P (x ∷ xs)
-all_cons P x xs p h zero d inside = p
-all_cons P x xs p h (suc k) d inside = h k d (omega arith)
-
-all_end : {A : Type 0} (P : A → Type 0) (xs : List A) (x : A) → AllByRecursion P xs → P x → All P (xs ++ x ∷ [])
-all_end P [] x h p = all_cons P x [] p (λ k d inside. absurd (omega arith))
-all_end P (y ∷ xs) x h p = all_cons P y (xs ++ x ∷ []) h.0 (all_end P xs x h.1 p)
+use Rattle.blif_read.proofs.SpelledLemmas.{all_cons, all_end, name-is, names-are, number-later, numbers-later, numbers-within, all-at, with_names-grows, with_names-append, with_names-first}
+use Rattle.blif_write.proofs.NumberLemmas.{ports-named, ports-within}
 
 same_latch : (a a' b b' : Name) (c c' : Clocking) (i i' : ℕ) → a ≡ a' → b ≡ b' → c ≡ c' → i ≡ i' → latch a b c (Some i) ≡ latch a' b' c' (Some i')
 same_latch a a' b b' c c' i i' ea eb ec ei = cc

@@ -9,7 +9,7 @@ use Rattle.blif_read.specs.Ids.{IsIdOf}
 use Rattle.blif_write.specs.Labels.{label_of, ids_in}
 use Rattle.blif_write.specs.declared.label.Label.{Label as NetLabel}
 use Rattle.blif_write.specs.declared.label.Label.TheVariants.{Given}
-use Rattle.blif_write.proofs.NumberLemmas.{all-at}
+use Rattle.blif_read.proofs.SpelledLemmas.{all-at}
 
 abbrev pub named_with : Name → List Name → List Name → List ℕ → GateList → List Label → List LatchRow → Named
 named_with model inputs clocks outputs net labels latches =

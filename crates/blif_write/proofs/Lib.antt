@@ -1,6 +1,15 @@
+pub mod EachKindLemmas
 pub mod FileLemmas
 pub mod InverterLemmas
+pub mod LabelNames
+pub mod NamedFaults
 pub mod NamedFiles
+pub mod NamedForms
+pub mod NamedLines
+pub mod NamedModels
+pub mod NamedOrder
+pub mod NamedReads
+pub mod NamedRuns
 pub mod NamedTexts
 pub mod NetLemmas
 pub mod NumberLemmas

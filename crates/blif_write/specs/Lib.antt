@@ -3,3 +3,4 @@ pub mod Named
 pub mod Refusals
 pub mod Lines
 pub mod Numbers
+pub mod Laws

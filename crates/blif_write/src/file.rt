@@ -5,11 +5,14 @@ ghost use Rattle.netlist_spec.specs.Gates.{ReadsBelow};
 ghost use Rattle.netlist_spec.specs.Netlist.{Name as Bytes};
 ghost use Rattle.netlist_spec.specs.Reads.{control_nets, statement_nets};
 ghost use Rattle.netlist_spec.specs.Written.{IsNamed, file_of as named_file, gate_statements, latch_statements, line_count as count_of, statements_from};
+ghost use Rattle.netlist_spec.specs.Text.{text_of};
+ghost use Rattle.netlist_spec.specs.WrittenText.{IsOneReading};
 ghost use Rattle.gate_net.specs.Gate.{gate_form};
 ghost use Rattle.gate_net.specs.Machine.{latch_row};
 ghost use Rattle.blif_read.specs.Ids.{HasIds, control_ids, IsIdOf};
 ghost use Rattle.blif_read.specs.View.{clocking_of, file_of, model_of, statement_of};
-ghost use Rattle.blif_write.specs.Numbers.{Spells, SpellsEach, latch_of, model_of_parts, names_of, statement_at, with_names};
+ghost use Rattle.blif_read.specs.Spelled.{Spells, SpellsEach, with_names};
+ghost use Rattle.blif_write.specs.Numbers.{latch_of, model_of_parts, names_of, statement_at};
 
 use crate::Named;
 use crate::cover::cover;
@@ -24,6 +27,7 @@ pub fn as_file(alloc: Global, g: &Named) -> Result<File, AllocError>
     ensures file { IfOk result (λ file. file_of file ≡ named_file g.now) }
     ensures ids { IfOk result (λ file. All HasIds file.models.items) }
     ensures is_named { IsNamed g.now }
+    ensures reading { IsOneReading (text_of g.now.unknown_inits (named_file g.now)) (named_file g.now) }
 {
     let mut names = Names::new(alloc);
     let inputs = given_numbers(alloc, &g.names, &g.inputs, &mut names)?;

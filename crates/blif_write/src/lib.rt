@@ -4,6 +4,7 @@
 mod cover;
 mod file;
 mod label;
+mod laws;
 mod lines;
 mod named;
 mod numbers;
@@ -15,6 +16,10 @@ mod text;
 
 pub use file::as_file;
 pub use label::Label;
+pub use laws::{
+    named_files_are_ordered, named_files_have_written_form, named_files_run_as_gates,
+    named_texts_are_read,
+};
 pub use named::Named;
 pub use refusal::WriteRefusal;
 pub use text::write;

@@ -8,7 +8,8 @@ ghost use Rattle.gate_net.specs.Gate.{gate_form, net_number};
 ghost use Rattle.blif_read.specs.Ids.{IsIdOf};
 ghost use Rattle.imp_text.specs.Names.{with_name};
 ghost use Rattle.blif_read.specs.View.{name_at};
-ghost use Rattle.blif_write.specs.Numbers.{AreNumbers, ports_numbered, with_names};
+ghost use Rattle.blif_read.specs.Spelled.{AreNumbers, with_names};
+ghost use Rattle.blif_write.specs.Numbers.{ports_numbered};
 
 use crate::Named;
 use crate::label::NameText;

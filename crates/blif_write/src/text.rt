@@ -3,6 +3,7 @@ ghost use Rattle.std.specs.Prelude.{◌≡◌};
 ghost use Rattle.imp_io.specs.Sink.{Puts};
 ghost use Rattle.netlist_spec.specs.Text.{text_of};
 ghost use Rattle.netlist_spec.specs.Written.{IsNamed, file_of};
+ghost use Rattle.netlist_spec.specs.WrittenText.{IsOneReading};
 ghost use Rattle.blif_write.specs.Lines.{gates_text, head_text, latches_text, named_text, ports_text};
 ghost use Rattle.blif_write.specs.Refusals.{put_answer};
 
@@ -16,6 +17,7 @@ use imp_io::{Sink, SinkFault};
 pub fn write<O: Sink>(g: &Named, out: &mut O) -> Result<(), WriteRefusal>
     ensures puts { Puts (O.seen out.old) (text_of g.now.unknown_inits (file_of g.now)) (put_answer result) (O.seen out.new) }
     ensures is_named { IsNamed g.now }
+    ensures reading { IsOneReading (text_of g.now.unknown_inits (file_of g.now)) (file_of g.now) }
 {
     // What holds of every `Named` is known once a field is read.
     let _ = &g.net;

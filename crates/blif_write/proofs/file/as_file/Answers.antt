@@ -10,8 +10,9 @@ use Rattle.blif_read.specs.View.{file_of, located_of, model_of, name_at, port_of
 use Rattle.blif_read.specs.declared.file.Model.{Model as ReadModel}
 use Rattle.blif_write.specs.Numbers.{ports_numbered}
 use Rattle.blif_write.proofs.FileLemmas.{all-names, is-small, later-three, later-two, names-long, ports-at, same-model, statements-at, written_model}
+use Rattle.blif_write.proofs.NamedReads.{texts-are-read}
 use Rattle.blif_write.proofs.NetLemmas.{clocks-are, inputs-are, outputs-here}
-use Rattle.blif_write.proofs.NumberLemmas.{length-numbers}
+use Rattle.blif_read.proofs.SpelledLemmas.{length-numbers}
 use Rattle.blif_write.proofs.file.as_file.Goals as goal
 
 pub given_numbers-requires-clause-are_names : goal.given_numbers-requires-clause-are_names
@@ -521,3 +522,30 @@ file_of_parts-requires c =
     let first = ((3 + c.len.result) + c.len-2.result) + c.len-3.result in
     let s_are = statements-at n4 c.in_ok-statements.statements.items (statements_from first ss) c.in_ok-statements.ensures.spells in
     record { inputs = i_ports.1; outputs = o_ports.1; clocks = c_ports.1; statements = s_are.1 }
+
+pub returns-in_err-inputs-clause-reading : goal.returns-in_err-inputs-clause-reading
+returns-in_err-inputs-clause-reading c = texts-are-read c.args.g.now (subst IsNamed c.g.view_is c.g.invariant.named)
+
+pub returns-in_err-outputs-clause-reading : goal.returns-in_err-outputs-clause-reading
+returns-in_err-outputs-clause-reading c = texts-are-read c.args.g.now (subst IsNamed c.g.view_is c.g.invariant.named)
+
+pub returns-in_err-clocks-clause-reading : goal.returns-in_err-clocks-clause-reading
+returns-in_err-clocks-clause-reading c = texts-are-read c.args.g.now (subst IsNamed c.g.view_is c.g.invariant.named)
+
+pub returns-in_err-statements-clause-reading : goal.returns-in_err-statements-clause-reading
+returns-in_err-statements-clause-reading c = texts-are-read c.args.g.now (subst IsNamed c.g.view_is c.g.invariant.named)
+
+pub returns-in_err-name-clause-reading : goal.returns-in_err-name-clause-reading
+returns-in_err-name-clause-reading c = texts-are-read c.args.g.now (subst IsNamed c.g.view_is c.g.invariant.named)
+
+pub returns-in_err-inputs-2-clause-reading : goal.returns-in_err-inputs-2-clause-reading
+returns-in_err-inputs-2-clause-reading c = texts-are-read c.args.g.now (subst IsNamed c.g.view_is c.g.invariant.named)
+
+pub returns-in_err-outputs-2-clause-reading : goal.returns-in_err-outputs-2-clause-reading
+returns-in_err-outputs-2-clause-reading c = texts-are-read c.args.g.now (subst IsNamed c.g.view_is c.g.invariant.named)
+
+pub returns-in_err-clocks-2-clause-reading : goal.returns-in_err-clocks-2-clause-reading
+returns-in_err-clocks-2-clause-reading c = texts-are-read c.args.g.now (subst IsNamed c.g.view_is c.g.invariant.named)
+
+pub returns-clause-reading : goal.returns-clause-reading
+returns-clause-reading c = texts-are-read c.args.g.now (subst IsNamed c.g.view_is c.g.invariant.named)

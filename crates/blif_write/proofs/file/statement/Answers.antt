@@ -2,7 +2,7 @@ use Rattle.std.proofs.Common.{◌≡◌, ℕ, ◌-◌, ◌<◌, ◌≤◌, get_o
 use Rattle.std.specs.Result.{OnOk, IfOk}
 use Rattle.netlist_spec.specs.Netlist.{Statement}
 use Rattle.netlist_spec.specs.Reads.{statement_nets}
-use Rattle.blif_write.specs.Numbers.{Spells, with_names}
+use Rattle.blif_read.specs.Spelled.{Spells, with_names}
 use Rattle.blif_write.proofs.FileLemmas.{gate-case}
 use Rattle.netlist_spec.specs.Written.{Named, IsNamed}
 use Rattle.gate_net.specs.Gate.{gate_form}

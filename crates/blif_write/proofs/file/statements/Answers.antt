@@ -5,7 +5,8 @@ use Rattle.netlist_spec.specs.Netlist.{Statement}
 use Rattle.netlist_spec.specs.Reads.{statement_nets}
 use Rattle.netlist_spec.specs.Written.{Named, IsNamed, latch_statements, gate_statements, line_count, statements_from}
 use Rattle.blif_read.specs.View.{statement_of}
-use Rattle.blif_write.specs.Numbers.{SpellsEach, statement_at, with_names}
+use Rattle.blif_read.specs.Spelled.{SpellsEach, with_names}
+use Rattle.blif_write.specs.Numbers.{statement_at}
 use Rattle.blif_write.proofs.FileLemmas.{count-same, few-lines, next-statement, statements-long}
 use Rattle.blif_write.proofs.file.statements.Goals as goal
 

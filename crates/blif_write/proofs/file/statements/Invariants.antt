@@ -3,7 +3,7 @@ use Rattle.std.proofs.Common.{◌≡◌, ◌+◌, ◌*◌, ◌-◌, ◌≤◌, �
 use Rattle.std.specs.List.{flat_map}
 use Rattle.netlist_spec.specs.Reads.{statement_nets}
 use Rattle.netlist_spec.specs.Written.{gate_statements, latch_statements, line_count, statements_from}
-use Rattle.blif_write.specs.Numbers.{SpellsEach, with_names}
+use Rattle.blif_read.specs.Spelled.{SpellsEach, with_names}
 use Rattle.blif_write.proofs.file.statements.Given as goal
 
 abbrev pub invariant-loop-n : goal.invariant-loop-n

@@ -3,7 +3,7 @@ use Rattle.std.proofs.lemmas.Option.{get_or_from_slice_get}
 use Rattle.netlist_spec.specs.Netlist.{IsName}
 use Rattle.imp_text.specs.declared.names.NameId.{NameId}
 use Rattle.blif_read.specs.View.{name_at}
-use Rattle.blif_write.proofs.NumberLemmas.{map-step, mapped-at, numbers-next}
+use Rattle.blif_read.proofs.SpelledLemmas.{map-step, mapped-at, numbers-next}
 use Rattle.blif_write.proofs.numbers.given_numbers.Goals as goal
 
 pub intern-requires-clause-some : goal.intern-requires-clause-some

@@ -1,7 +1,7 @@
 -- The names so far have their numbers.
 use Rattle.std.proofs.Common.{◌≡◌, ◌+◌, ◌≤◌, map, take, length}
 use Rattle.blif_read.specs.View.{name_at}
-use Rattle.blif_write.specs.Numbers.{AreNumbers, with_names}
+use Rattle.blif_read.specs.Spelled.{AreNumbers, with_names}
 use Rattle.blif_write.proofs.numbers.given_numbers.Given as goal
 
 abbrev pub invariant-loop-id : goal.invariant-loop-id

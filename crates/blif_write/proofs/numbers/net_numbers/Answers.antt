@@ -2,7 +2,7 @@ use Rattle.std.proofs.Common.{◌+◌, ◌≤◌, length, map, take, arith, get_
 use Rattle.netlist_spec.specs.Written.{net_name}
 use Rattle.gate_net.specs.declared.gate.NetId.{NetId}
 use Rattle.gate_net.specs.Gate.{net_number}
-use Rattle.blif_write.proofs.NumberLemmas.{map-step_of, numbers-next}
+use Rattle.blif_read.proofs.SpelledLemmas.{map-step_of, numbers-next}
 use Rattle.blif_write.proofs.numbers.net_numbers.Goals as goal
 
 pub loop-n-preserved : goal.loop-n-preserved

@@ -2,7 +2,7 @@
 use Rattle.std.proofs.Common.{◌≡◌, ◌+◌, ◌≤◌, map, take, length}
 use Rattle.netlist_spec.specs.Written.{net_name}
 use Rattle.gate_net.specs.Gate.{net_number}
-use Rattle.blif_write.specs.Numbers.{AreNumbers, with_names}
+use Rattle.blif_read.specs.Spelled.{AreNumbers, with_names}
 use Rattle.blif_write.proofs.numbers.net_numbers.Given as goal
 
 abbrev pub invariant-loop-n : goal.invariant-loop-n

@@ -1,5 +1,6 @@
 use Rattle.std.proofs.Common.{subst}
 use Rattle.netlist_spec.specs.Written.{IsNamed}
+use Rattle.blif_write.proofs.NamedReads.{texts-are-read}
 use Rattle.blif_write.proofs.NamedTexts.{text-is}
 use Rattle.blif_write.proofs.Steps.{Puts-text}
 use Rattle.blif_write.proofs.text.write.Goals as goal
@@ -18,3 +19,12 @@ pub returns-in-Err-NoMemory-clause-puts : goal.returns-in-Err-NoMemory-clause-pu
 returns-in-Err-NoMemory-clause-puts g c =
     let named = subst IsNamed c.g.view_is c.g.invariant.named in
     Puts-text _ _ _ _ _ (text-is c.args.g.now named) (rw c.in-Err-NoMemory.field-0-is at c.in-Err-NoMemory.ensures)
+
+pub returns-in-Ok-clause-reading : goal.returns-in-Ok-clause-reading
+returns-in-Ok-clause-reading g c = texts-are-read c.args.g.now (subst IsNamed c.g.view_is c.g.invariant.named)
+
+pub returns-in-Err-Failed-clause-reading : goal.returns-in-Err-Failed-clause-reading
+returns-in-Err-Failed-clause-reading g c = texts-are-read c.args.g.now (subst IsNamed c.g.view_is c.g.invariant.named)
+
+pub returns-in-Err-NoMemory-clause-reading : goal.returns-in-Err-NoMemory-clause-reading
+returns-in-Err-NoMemory-clause-reading g c = texts-are-read c.args.g.now (subst IsNamed c.g.view_is c.g.invariant.named)
