@@ -1,0 +1,15 @@
+-- The outputs of the latches so far are marked.
+use Rattle.std.proofs.Common.{◌≡◌, ◌&&◌, List, ◌++◌, take}
+use Rattle.std.specs.List.{flat_map}
+use Rattle.netlist_spec.specs.Netlist.{Name, are_distinct}
+use Rattle.blif_read.specs.declared.file.Located.{Located}
+use Rattle.elaborate.specs.Marks.{Marks}
+use Rattle.elaborate.specs.OrderTests.{shown_by}
+use Rattle.elaborate.proofs.order.mark_latches.Given as goal
+
+abbrev pub invariant-loop-s : goal.invariant-loop-s
+invariant-loop-s l =
+    record {
+      marked : (all listed : List Name) → Marks all l.initial.marks listed → Marks all l.marks (listed ++ flat_map (λ (s : Located). shown_by all s.what) (take l.s-index l.statements));
+      new : (all listed : List Name) → Marks all l.initial.marks listed → are_distinct (listed ++ flat_map (λ (s : Located). shown_by all s.what) (take l.s-index l.statements)) ≡ (are_distinct listed && l.all_new);
+    }

@@ -1,0 +1,10 @@
+pub mod Elaborated
+pub mod Flat
+pub mod Labels
+pub mod Topological
+pub mod Marks
+pub mod OrderTests
+pub mod FlatForm
+pub mod FlatTests
+pub mod Ready
+pub mod Numbers

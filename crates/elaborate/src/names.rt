@@ -1,0 +1,69 @@
+// The names of a model, and their numbers.
+ghost use Rattle.std.specs.Prelude.{◌≡◌, ◌^◌, ◌<◌, length, map, filter_map, count_by, IfOk};
+ghost use Rattle.netlist_spec.specs.Models.{is_unknown as is_unknown_of};
+ghost use Rattle.blif_read.specs.declared.file.Port.{Port};
+ghost use Rattle.blif_read.specs.declared.file.Located.{Located};
+ghost use Rattle.elaborate.specs.Numbers.{has_unknown_init as has_unknown_init_of, shown_id};
+
+use blif_read::{Located, NameId, Names, Port, Statement};
+use std::alloc::{AllocError, Global};
+
+/// The same names with the same numbers.
+pub(crate) fn copy_names(alloc: Global, names: &Names) -> Result<Names, AllocError>
+    ensures { IfOk result (λ copy. copy ≡ names.now) }
+{
+    let mut copy = Names::new(alloc);
+    for i in 0..names.len() {
+        copy.intern(names.get(NameId(i)))?;
+    }
+    Ok(copy)
+}
+
+/// The names of ports.
+pub(crate) fn port_ids(alloc: Global, ports: &[Port]) -> Result<Vec<NameId>, AllocError>
+    ensures { IfOk result (λ ids. ids.items ≡ map (λ (port : Port). port.name) ports.now) }
+{
+    ports.iter().map(|port| port.name).collect(alloc)
+}
+
+/// The outputs of the latches.
+pub(crate) fn latch_ids(alloc: Global, statements: &[Located]) -> Result<Vec<NameId>, AllocError>
+    ensures { IfOk result (λ ids. ids.items ≡ filter_map shown_id statements.now) }
+{
+    let mut ids = Vec::new(alloc);
+    for located in statements {
+        if let Statement::Latch { q, .. } = &located.what {
+            ids.push(*q)?;
+        }
+    }
+    Ok(ids)
+}
+
+fn is_unknown(init: Option<u8>) -> bool
+    ensures { result ≡ is_unknown_of init }
+{
+    match init {
+        None => true,
+        Some(n) => n > 1,
+    }
+}
+
+fn has_unknown_init(statement: &Statement) -> bool
+    ensures { result ≡ has_unknown_init_of statement.now }
+{
+    match statement {
+        Statement::Latch { init, .. } => is_unknown(*init),
+        _ => false,
+    }
+}
+
+/// How many latches have an init that is 2, 3 or missing.
+pub(crate) fn unknown_inits(statements: &[Located]) -> u32
+    requires { length statements.now < 2 ^ 32 }
+    ensures { result ≡ count_by (λ (located : Located). has_unknown_init_of located.what) statements.now }
+{
+    statements
+        .iter()
+        .filter(|located| has_unknown_init(&located.what))
+        .count() as u32
+}
