@@ -1,0 +1,21 @@
+-- The cone of some nets of a gate list, and its size.
+use Rattle.std.specs.Prelude.{◌≡◌, ℕ, ◌+◌, ◌≤◌, ◌^◌, Bool, List, length, Contains}
+use Rattle.std.specs.List.{range_with_len}
+use Rattle.netlist_spec.specs.Gates.{GateList, ReadsNet}
+use Rattle.netlist_spec.specs.Plain.{AreMarked, marked_sum}
+use Rattle.gate_net.specs.GateNet.{net_count}
+
+-- The cone of some roots: the roots, and each net that a gate of the cone reads.
+pub data IsInCone (net : GateList) (roots : List ℕ) : ℕ → Type 0 where
+  is_root : {n : ℕ} → Contains roots n → IsInCone net roots n
+  is_read : {n k : ℕ} → IsInCone net roots n → ReadsNet net n k → IsInCone net roots k
+
+-- the number of gates of the cone, each counted once
+abbrev pub IsConeSize : GateList → List ℕ → ℕ → Type 0
+IsConeSize net roots size =
+    (marks : List Bool) × AreMarked (λ i. IsInCone net roots (net.leaves + i)) (range_with_len 0 (length net.gates)) marks
+    × (size ≡ marked_sum (λ i. 1) (range_with_len 0 (length net.gates)) marks)
+
+-- A gate list has room for a copy of the cone, a gate for each root and one gate more.
+abbrev pub HasRoom : GateList → List ℕ → GateList → Type 0
+HasRoom src roots dst = (size : ℕ) → IsConeSize src roots size → net_count dst + size + length roots + 1 ≤ 2 ^ 23
