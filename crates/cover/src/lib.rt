@@ -1,0 +1,9 @@
+//! Gates for the covers of Berkeley BLIF.
+#![tactic(auto)]
+
+mod products;
+
+pub use products::lower;
+
+#[cfg(test)]
+mod tests;

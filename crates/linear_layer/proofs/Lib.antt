@@ -1,0 +1,2 @@
+pub mod OddInputs
+pub mod Widths

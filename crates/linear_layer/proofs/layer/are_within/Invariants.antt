@@ -1,0 +1,6 @@
+use Rattle.std.proofs.Common.{◌^◌, ◌<◌, take}
+use Rattle.std.specs.List.{AllByRecursion}
+use Rattle.linear_layer.proofs.layer.are_within.Given as goal
+
+abbrev pub invariant-loop-row : goal.invariant-loop-row
+invariant-loop-row l = AllByRecursion (λ n. n < 2 ^ l.width) (take l.row-index l.rows)

@@ -1,0 +1,4 @@
+pub mod Appended
+pub mod Inputs
+pub mod Outputs
+pub mod GateReads

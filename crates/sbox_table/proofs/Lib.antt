@@ -1,0 +1,4 @@
+pub mod MintermReads
+pub mod Numbers
+pub mod Terms
+pub mod Widths
