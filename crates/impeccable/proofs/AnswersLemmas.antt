@@ -1,5 +1,6 @@
 -- The outcomes that must come, from what each outcome says: the verdict of a command over some contents is one.
-use Rattle.std.proofs.Common.{◌≡◌, inl, inr, refl, arith}
+use Rattle.std.proofs.Common.{◌≡◌, inl, inr, refl, sym, arith, Option, Some, None}
+use Rattle.std.specs.Prelude.{IfSome}
 use Rattle.imp_io.specs.Files.{FilesSeen, bytes_at}
 use Rattle.imp_io.specs.Sink.{SinkSeen}
 use Rattle.imp_io.proofs.LoadLemmas.{IsLater-refl}
@@ -59,5 +60,23 @@ Ends-tells command old new out out' err err' (ERefused told) h s = s
 Ends-tells command old new out out' err err' (EReadFault name) h s = (name.now, h.1, s)
 Ends-tells command old new out out' err err' EWriteFault h s = s
 Ends-tells command old new out out' err err' ENoMemory h s = s
+
+-- a refusal that must come comes, by how the command that was asked for ended
+pub asked-refuses : (asked : Option Command) (command : Command) (old new : FilesSeen) (out out' : SinkSeen) (ended : Ended) (outcome : Outcome) → Some command ≡ asked → outcome ≡ outcome_of ended → Ends command old new out out' ended → IfSome asked (λ k. RefusesThere k old new outcome)
+asked-refuses asked command old new out out' ended outcome is same ends =
+    rw (sym is, same) (Answers-refuse command old new out out' (outcome_of ended) (Ends-answers command old new out out' ended ends))
+
+-- and the whole text, where nothing keeps it
+pub asked-completes : (asked : Option Command) (command : Command) (old new : FilesSeen) (out out' : SinkSeen) (ended : Ended) (outcome : Outcome) → Some command ≡ asked → outcome ≡ outcome_of ended → Ends command old new out out' ended → IfSome asked (λ k. IsComplete k old new out out' outcome)
+asked-completes asked command old new out out' ended outcome is same ends =
+    rw (sym is, same) (Answers-complete command old new out out' (outcome_of ended) (Ends-answers command old new out out' ended ends))
+
+-- what each outcome says
+pub asked-answers : (asked : Option Command) (command : Command) (old new : FilesSeen) (out out' : SinkSeen) (ended : Ended) (outcome : Outcome) → Some command ≡ asked → outcome ≡ outcome_of ended → Ends command old new out out' ended → IfSome asked (λ k. Answers k old new out out' outcome)
+asked-answers asked command old new out out' ended outcome is same ends = rw (sym is, same) (Ends-answers command old new out out' ended ends)
+
+-- where nothing is asked for, nothing must come
+pub unasked : (asked : Option Command) (P : Command → Type 0) → None ≡ asked → IfSome asked P
+unasked asked P is = rw (sym is) tt
 
 pub ruleset outcomes = (Answers-complete, Answers-refuse, Ends-answers, Ends-tells, IsLater-refl)

@@ -1,4 +1,6 @@
 pub mod AnswersLemmas
-pub mod PortLemmas
+pub mod ErrorLineLemmas
 pub mod StopLemmas
 pub mod WriteLemmas
+pub mod ReportLemmas
+pub mod CodeLemmas

@@ -1,7 +1,8 @@
 -- A command as the program keeps it.
-use Rattle.netlist_spec.specs.Commands.{Command, flat}
+use Rattle.netlist_spec.specs.Commands.{Command, flat, code}
 use Rattle.impeccable.specs.declared.command.Command.{Command as Kept}
-use Rattle.impeccable.specs.declared.command.Command.TheVariants.{Flat}
+use Rattle.impeccable.specs.declared.command.Command.TheVariants.{Flat, Code}
 
 abbrev pub as_asked : Kept → Command
 as_asked (Flat netlist) = flat netlist.now
+as_asked (Code settings) = code settings.now

@@ -1,5 +1,5 @@
 -- How a command ended as plain data, and what is put to the error output.
-use Rattle.std.specs.Prelude.{◌≡◌, ℕ, List, ◌++◌, ◌∷◌, [], Result, MatchOption}
+use Rattle.std.specs.Prelude.{◌≡◌, ℕ, List, ◌++◌, ◌∷◌, [], codes, decimal, Result, MatchOption}
 use Rattle.std.specs.List.{flat_map}
 use Rattle.std.specs.Io.KnownBytes.{Appends}
 use Rattle.imp_io.specs.Counts.{Stayed}
@@ -31,6 +31,10 @@ outcome_of NoMemory = ANoMemory
 -- a text, a name as it is printed, and the end of the line
 abbrev pub named_line : List ℕ → List ℕ → List ℕ
 named_line front name = front ++ flat_map escape name ++ 10 ∷ []
+
+-- the number of a refusal and that of a line of the netlist
+abbrev pub place_text : List ℕ → ℕ → List ℕ
+place_text number line = codes "impeccable: " ++ number ++ codes " line " ++ decimal line ++ 32 ∷ []
 
 -- The line was put, or a prefix of it at the first put that failed.
 abbrev pub PutsAnswer : {T : Type 0} → Answer → SinkSeen → Result T SinkFault → SinkSeen → Type 0

@@ -5,3 +5,4 @@ pub mod Answers
 pub mod Ends
 pub mod Stop
 pub mod Flat
+pub mod Code

@@ -1,8 +1,11 @@
 -- The status that each outcome ends with, and refusals as plain data.
 use Rattle.std.specs.Prelude.{ℕ}
-use Rattle.netlist_spec.specs.Refusals.{Refusal, file_too_long, not_yet}
+use Rattle.netlist_spec.specs.ReadFaults.{unknown_statement, bad_row, mixed_cover, bad_latch, no_model, long_name, too_many, twice_model, bad_subckt, after_end, word_count}
+use Rattle.netlist_spec.specs.SettingsFile.{not_toml, missing, bad_value, unknown_key, bad_shape}
+use Rattle.netlist_spec.specs.Refusals.{Refusal, file_too_long, unreadable, bad_settings, not_yet}
+use Rattle.imp_text.specs.Quantities.{quantity_of}
 use Rattle.impeccable.specs.declared.outcome.Refusal.{Refusal as Told}
-use Rattle.impeccable.specs.declared.outcome.Refusal.TheVariants.{FileTooLong, NotYet}
+use Rattle.impeccable.specs.declared.outcome.Refusal.TheVariants.{FileTooLong, UnknownStatement, BadRow, MixedCover, BadLatch, NoModel, LongName, TooMany, TwiceModel, BadSubckt, AfterEnd, WordCount, NotToml, Missing, BadValue, UnknownKey, BadShape, NotYet}
 use Rattle.impeccable.specs.declared.outcome.Outcome.{Outcome}
 use Rattle.impeccable.specs.declared.outcome.Outcome.TheVariants.{Done, Found, Usage, Refused, ReadFault, WriteFault, NoMemory}
 
@@ -17,4 +20,20 @@ code_of Found = 6
 
 abbrev pub refusal_of : Told → Refusal
 refusal_of (FileTooLong name) = file_too_long name
+refusal_of (UnknownStatement line word) = unreadable (unknown_statement line word)
+refusal_of (BadRow line) = unreadable (bad_row line)
+refusal_of (MixedCover line) = unreadable (mixed_cover line)
+refusal_of (BadLatch line) = unreadable (bad_latch line)
+refusal_of (NoModel line) = unreadable (no_model line)
+refusal_of (LongName line) = unreadable (long_name line)
+refusal_of (TooMany line what) = unreadable (too_many line (quantity_of what))
+refusal_of (TwiceModel line name) = unreadable (twice_model line name)
+refusal_of (BadSubckt line) = unreadable (bad_subckt line)
+refusal_of (AfterEnd line) = unreadable (after_end line)
+refusal_of (WordCount line) = unreadable (word_count line)
+refusal_of NotToml = bad_settings not_toml
+refusal_of (Missing key) = bad_settings (missing key)
+refusal_of (BadValue key) = bad_settings (bad_value key)
+refusal_of (UnknownKey key) = bad_settings (unknown_key key)
+refusal_of BadShape = bad_settings bad_shape
 refusal_of NotYet = not_yet

@@ -8,6 +8,7 @@ ghost use Rattle.impeccable.specs.Command.{as_asked};
 #[derive(Clone, Copy, Debug)]
 pub(crate) enum Command<'a> {
     Flat { netlist: &'a str },
+    Code { settings: &'a str },
 }
 
 /// The command that the words spell, if they spell one.
@@ -17,6 +18,9 @@ pub(crate) fn read_command<'a>(words: &'a [String]) -> Option<Command<'a>>
     match words {
         [first, netlist] if first.as_str() == "flat" => Some(Command::Flat {
             netlist: netlist.as_str(),
+        }),
+        [first, settings] if first.as_str() == "code" => Some(Command::Code {
+            settings: settings.as_str(),
         }),
         _ => None,
     }

@@ -1,13 +1,10 @@
 // How a command ended, and what its line on the error output tells.
 ghost use Rattle.std.specs.Prelude.{◌≡◌, OnErr};
-ghost use Rattle.std.specs.List.{flat_map};
-ghost use Rattle.imp_io.specs.Sink.{Puts};
-ghost use Rattle.netlist_spec.specs.ErrorLines.{escape as escape_of};
-ghost use Rattle.impeccable.specs.Ended.{Says, PutsAnswer, answer_of, outcome_of, named_line};
+ghost use Rattle.impeccable.specs.Ended.{Says, PutsAnswer, answer_of, outcome_of};
 
+use crate::error_line::{put_named, put_refusal};
 use crate::{Outcome, Refusal};
 use imp_io::{Sink, SinkFault};
-use imp_text::escape;
 
 /// How a command ended, with the name of the file whose load failed.
 #[derive(Debug, Drop)]
@@ -51,30 +48,9 @@ pub(crate) fn put_answer<E: Sink>(ended: &Ended, err: &mut E) -> Result<(), Sink
         Ended::Usage => err.put(
             b"impeccable: usage: flat NETLIST, code SETTINGS, guard SETTINGS NETLIST, sim NETLIST STIMULUS SCRIPT, audit NETLIST, campaign SETTINGS NETLIST STIMULUS CYCLE, demo N\n",
         ),
-        Ended::Refused(Refusal::FileTooLong(name)) => {
-            put_named(b"impeccable: F1 file too long ", name.bytes(), err)
-        }
-        Ended::Refused(Refusal::NotYet) => err.put(b"impeccable: N1 not yet\n"),
+        Ended::Refused(refusal) => put_refusal(refusal, err),
         Ended::ReadFault(name) => put_named(b"impeccable: cannot read ", name.as_bytes(), err),
         Ended::WriteFault => err.put(b"impeccable: cannot write\n"),
         Ended::NoMemory => err.put(b"impeccable: no memory\n"),
     }
-}
-
-// A text, a name as it is printed, and the end of the line.
-fn put_named<E: Sink>(front: &[u8], name: &[u8], err: &mut E) -> Result<(), SinkFault>
-    ensures { Puts (E.seen err.old) (named_line front.now name.now) result (E.seen err.new) }
-{
-    err.put(front)?;
-    put_escaped(name, err)?;
-    err.put(b"\n")
-}
-
-fn put_escaped<E: Sink>(name: &[u8], err: &mut E) -> Result<(), SinkFault>
-    ensures { Puts (E.seen err.old) (flat_map escape_of name.now) result (E.seen err.new) }
-{
-    for b in name {
-        err.put(&escape(*b))?;
-    }
-    Ok(())
 }

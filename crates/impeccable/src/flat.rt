@@ -1,80 +1,62 @@
-// The command `flat NETLIST`.
-ghost use Rattle.std.specs.Prelude.{◌≡◌, ◌<◌, List, ℕ, IfOk, length, map};
+// The command `flat NETLIST`, up to what it writes.
+ghost use Rattle.std.specs.Prelude.{ℕ, List, All, IfOk};
 ghost use Rattle.imp_io.specs.Files.{IsLater};
-ghost use Rattle.imp_io.specs.Sink.{Puts};
-ghost use Rattle.netlist_spec.specs.Commands.{flat};
+ghost use Rattle.netlist_spec.specs.Commands.{flat as flat_command};
+ghost use Rattle.netlist_spec.specs.Covers.{empty_library};
+ghost use Rattle.netlist_spec.specs.FileRules.{IsFile};
+ghost use Rattle.netlist_spec.specs.FlatReady.{IsFlatReady};
+ghost use Rattle.netlist_spec.specs.Reads.{Reads};
+ghost use Rattle.netlist_spec.specs.WrittenText.{IsFlatText};
+ghost use Rattle.blif_read.specs.Ids.{HasIds};
 ghost use Rattle.blif_read.specs.View.{file_of};
-ghost use Rattle.impeccable.specs.Flat.{IsThinFile, flat_text, ports_text, port_lines, line_of, HaveNames};
+ghost use Rattle.impeccable.specs.Flat.{named_text};
 ghost use Rattle.impeccable.specs.Stop.{Prepares};
 
 use crate::Refusal;
 use crate::load::load_named;
 use crate::stop::Stop;
-use blif_read::{File, Model, Names, Port, read_thin};
-use imp_io::{Files, Sink, SinkFault};
-use std::alloc::Global;
+use blif_read::{File, read};
+use blif_write::Named;
+use elaborate::{
+    elaborate_ready, elaborated_sources_stand_for_their_files, flat, flat_netlists_are_flat,
+    is_flat_ready, name_flat,
+};
+use imp_io::Files;
+use std::alloc::{AllocError, Global};
 
 const LONGEST_NETLIST: usize = 268_435_456;
 
-/// Loads and reads the netlist.
+/// Loads and reads the netlist, and makes its flat netlist.
 pub(crate) fn read_netlist<'a, F: Files>(
     alloc: Global,
     netlist: &'a str,
     files: &mut F,
-) -> Result<File, Stop<'a>>
-    ensures prepares { Prepares (flat netlist.now) flat_text (F.seen files.old) result (F.seen files.new) }
-    ensures thin { IfOk result (λ file. IsThinFile (file_of file)) }
+) -> Result<Named, Stop<'a>>
+    ensures prepares { Prepares (flat_command netlist.now) named_text (F.seen files.old) result (F.seen files.new) }
     ensures later { IsLater (F.seen files.old) (F.seen files.new) }
 {
     let bytes = load_named(alloc, files, netlist, LONGEST_NETLIST)?;
-    match read_thin(alloc, &bytes)? {
-        Some(file) => Ok(file),
-        None => Err(Stop::Refused(Refusal::NotYet)),
+    let file = read(alloc, &bytes)?;
+    if !is_flat_ready(alloc, &file)? {
+        return Err(Stop::Refused(Refusal::NotYet));
     }
+    let named = flatten(alloc, &file)?;
+    Ok(named)
 }
 
-/// Writes the flat netlist of a thin file.
-pub(crate) fn write_flat<O: Sink>(file: &File, out: &mut O) -> Result<(), SinkFault>
-    requires { IsThinFile (file_of file.now) }
-    ensures { Puts (O.seen out.old) (flat_text file.now) result (O.seen out.new) }
+// The flat netlist of a file that is ready.
+fn flatten(alloc: Global, file: &File) -> Result<Named, AllocError>
+    requires ready { IsFlatReady (file_of file.now) }
+    requires ids { All HasIds file.now.models.items }
+    requires is_file { IsFile (file_of file.now) }
+    ensures { IfOk result (λ g. (netlist : List ℕ)
+        → Reads netlist (file_of file.now) → IsFlatText netlist (named_text g) empty_library) }
 {
-    write_ports(&file.models[0], out)
-}
-
-// Writes a model that has ports alone.
-fn write_ports<O: Sink>(model: &Model, out: &mut O) -> Result<(), SinkFault>
-    requires inputs { HaveNames model.now.names model.now.inputs.items }
-    requires outputs { HaveNames model.now.names model.now.outputs.items }
-    ensures { Puts (O.seen out.old) (ports_text model.now) result (O.seen out.new) }
-{
-    out.put(b"# unknown inits 0\n")?;
-    put_line(b".model ", model.name.bytes(), out)?;
-    put_lines(b".inputs ", &model.names, &model.inputs, out)?;
-    put_lines(b".outputs ", &model.names, &model.outputs, out)?;
-    out.put(b".end\n")
-}
-
-// A line of a word and a name.
-fn put_line<O: Sink>(front: &[u8], name: &[u8], out: &mut O) -> Result<(), SinkFault>
-    ensures { Puts (O.seen out.old) (line_of front.now name.now) result (O.seen out.new) }
-{
-    out.put(front)?;
-    out.put(name)?;
-    out.put(b"\n")
-}
-
-// Such a line for each port.
-fn put_lines<O: Sink>(
-    front: &[u8],
-    names: &Names,
-    ports: &[Port],
-    out: &mut O,
-) -> Result<(), SinkFault>
-    requires { HaveNames names.now ports.now }
-    ensures { Puts (O.seen out.old) (port_lines front.now names.now ports.now) result (O.seen out.new) }
-{
-    for port in ports {
-        put_line(front, names.get(port.name), out)?;
-    }
-    Ok(())
+    // What the two laws say is known behind their calls.
+    elaborated_sources_stand_for_their_files();
+    flat_netlists_are_flat();
+    let elaborated = elaborate_ready(alloc, file)?;
+    let nets = flat(alloc, &elaborated)?;
+    let named = name_flat(alloc, elaborated, nets)?;
+    Ok(named)
 }

@@ -1,8 +1,11 @@
 //! The program as one call: words and files in, a text and an outcome out.
 #![tactic(auto)]
 
+mod code;
 mod command;
 mod ended;
+mod error_line;
+mod escaped;
 mod flat;
 mod load;
 mod outcome;

@@ -1,14 +1,46 @@
 // How a call of the program ends.
 ghost use Rattle.std.specs.Prelude.{◌≡◌};
 
-use blif_read::Text;
+use blif_read::{Name, Text, What};
 
-/// Why the input is refused.
+/// Why the input is refused. A number is that of a line, from 1.
 #[derive(Debug, Drop)]
 pub enum Refusal {
     /// The file of that name is longer than files of its kind may be.
     FileTooLong(Text),
-    /// The netlist isn't thin: a model line, lines of one port each, and `.end`.
+    /// The first word begins with `.` and is none of the eight words of the language.
+    UnknownStatement(u32, Text),
+    /// The line is no row of the cover that directly precedes it, or no cover does.
+    BadRow(u32),
+    /// The row's last character differs from that of the cover's first row.
+    MixedCover(u32),
+    /// A `.latch` of another form.
+    BadLatch(u32),
+    /// No `.model` is before the line. The line is 0 where the text has no line with words.
+    NoModel(u32),
+    /// A name is longer than 255 bytes.
+    LongName(u32),
+    /// The line brings this count past its number.
+    TooMany(u32, What),
+    /// An earlier model has this name.
+    TwiceModel(u32, Name),
+    /// A port word of `.subckt` has no `=`, or an empty part.
+    BadSubckt(u32),
+    /// The line follows `.end` and isn't `.model`.
+    AfterEnd(u32),
+    /// `.model` without exactly one name, `.names` or `.subckt` without a word, or `.end` with a word.
+    WordCount(u32),
+    /// The settings are no TOML document.
+    NotToml,
+    /// The settings lack this key.
+    Missing(Text),
+    /// The value of this key isn't of the form that the key asks for.
+    BadValue(Text),
+    /// The settings have this other key.
+    UnknownKey(Text),
+    /// `check` is an array of texts, and no check matrix.
+    BadShape,
+    /// The netlist has sub-models, a clock, a wide cover, or lines out of order; or it isn't sound.
     NotYet,
 }
 

@@ -2,6 +2,7 @@ ghost use Rattle.std.specs.Prelude.{None};
 ghost use Rattle.imp_io.specs.MemSink.{HasDistinctNumbers};
 
 use super::*;
+use blif_read::{Cover, Model, NameId, Statement, read};
 use imp_io::{Files, LoadFault, MemFile, MemFiles, MemSink};
 use std::alloc::{AllocError, Global};
 use std::test::Fail;
@@ -79,22 +80,253 @@ fn files_of_ports_are_flattened(rt: HostRuntime) -> Result<(), Fail> {
     Ok(())
 }
 
+// What `flat` tells of netlists that it refuses.
 #[test]
-fn other_files_are_not_yet_flattened(rt: HostRuntime) -> Result<(), Fail> {
+fn netlists_are_refused(rt: HostRuntime) -> Result<(), Fail> {
     let alloc = rt.alloc();
-    let texts = [
-        b"".as_slice(),
-        b".model e\n.end".as_slice(),
-        b".model m\n.gate nand2 a=x\n.end\n".as_slice(),
-        b".model m\r\n.inputs a \\\n b\n.outputs y\n.names a b y # and\n11 1 # row".as_slice(),
-        b".model m\n.outputs a\n.end\n".as_slice(),
+    let cases = [
+        ("", "B5 line 0 no model"),
+        (".inputs a\n", "B5 line 1 no model"),
+        (
+            ".model m\n.gate nand2 a=x\n",
+            "B1 line 2 unknown statement .gate",
+        ),
+        (".model m\n.names a b y\n1 1\n", "B2 line 3 bad row"),
+        (".model m\n1 1\n", "B2 line 2 bad row"),
+        (
+            ".model c\n.inputs a b\n.outputs y\n.names a b y\n00 0\n11 1\n",
+            "B3 line 6 mixed cover",
+        ),
+        (".model m\n.latch a b ah clk 0\n", "B4 line 2 bad latch"),
+        (
+            ".model m\n.names a b c d e f g h i j k l m n o p q y\n",
+            "B7 line 2 too many cover",
+        ),
+        (".model m\n.end\n.model m\n", "B8 line 3 model twice m"),
+        (".model m\n.subckt s a\n", "B9 line 2 bad subckt"),
+        (".model m\n.end\n.names y\n", "B10 line 3 after end"),
+        (".model\n", "B11 line 1 word count"),
+        (
+            ".model r\n.inputs a\n.outputs y\n.names m y\n0 1\n.names a m\n0 1\n",
+            "N1 not yet",
+        ),
+        (".model m\n.outputs y\n", "N1 not yet"),
+        (
+            ".model m\n.inputs a b c\n.outputs y\n.names a b c y\n111 1\n",
+            "N1 not yet",
+        ),
+        (".model m\n.inputs guard:x\n", "N1 not yet"),
+        (".model m\n.subckt s\n.end\n.model s\n", "N1 not yet"),
     ];
-    for text in texts {
-        let mut files = held(alloc, "e.blif", text.to_vec(alloc)?, Vec::new(alloc))?;
+    for (text, told) in cases {
+        let mut files = held(
+            alloc,
+            "e.blif",
+            text.as_bytes().to_vec(alloc)?,
+            Vec::new(alloc),
+        )?;
         let ran = run_line(alloc, "flat e.blif", &mut files, Vec::new(alloc))?;
         assert_eq!(rt; ran.status, 1);
         assert_eq!(rt; ran.out.bytes(), b"".as_slice());
-        assert_eq!(rt; ran.err.bytes(), b"impeccable: N1 not yet\n".as_slice());
+        let line = format!(in alloc; "impeccable: {told}\n")?;
+        assert_eq!(rt; ran.err.bytes(), line.as_bytes());
+    }
+    Ok(())
+}
+
+// A word that isn't text, and a name of 256 bytes.
+#[test]
+fn words_of_any_bytes(rt: HostRuntime) -> Result<(), Fail> {
+    let alloc = rt.alloc();
+    let mut text = b".model m\n.inputs ".to_vec(alloc)?;
+    text.resize(text.len() + 256, b'a')?;
+    let cases = [
+        (
+            b".model m\n.\xff\n".to_vec(alloc)?,
+            "impeccable: B1 line 2 unknown statement .\\xff\n",
+        ),
+        (text, "impeccable: B6 line 2 long name\n"),
+    ];
+    for (text, told) in cases {
+        let mut files = held(alloc, "e.blif", text, Vec::new(alloc))?;
+        let ran = run_line(alloc, "flat e.blif", &mut files, Vec::new(alloc))?;
+        assert_eq!(rt; ran.status, 1);
+        assert_eq!(rt; ran.out.bytes(), b"".as_slice());
+        assert_eq!(rt; ran.err.bytes(), told.as_bytes());
+    }
+    Ok(())
+}
+
+// A word of 600 bytes, of which bytes 255, 256, 511 and 512 aren't printable.
+#[test]
+fn a_long_word_is_told_whole(rt: HostRuntime) -> Result<(), Fail> {
+    let alloc = rt.alloc();
+    let letters = [b'a'; 254];
+    let mut text = b".model m\n.".to_vec(alloc)?;
+    let mut told = b"impeccable: B1 line 2 unknown statement .".to_vec(alloc)?;
+    text.extend_from_slice(&letters)?;
+    told.extend_from_slice(&letters)?;
+    text.extend_from_slice(b"\xff\xff")?;
+    told.extend_from_slice(b"\\xff\\xff")?;
+    text.extend_from_slice(&letters)?;
+    told.extend_from_slice(&letters)?;
+    text.extend_from_slice(b"\x80\x7f")?;
+    told.extend_from_slice(b"\\x80\\x7f")?;
+    text.extend_from_slice(&letters[..87])?;
+    told.extend_from_slice(&letters[..87])?;
+    text.push(b'\n')?;
+    told.push(b'\n')?;
+    let mut files = held(alloc, "e.blif", text, Vec::new(alloc))?;
+    let ran = run_line(alloc, "flat e.blif", &mut files, Vec::new(alloc))?;
+    assert_eq!(rt; ran.status, 1);
+    assert_eq!(rt; ran.out.bytes(), b"".as_slice());
+    assert_eq!(rt; ran.err.bytes(), told.as_slice());
+    Ok(())
+}
+
+// The bit of a net, and 0 where there is none.
+fn bit_of(values: &[bool], net: NameId) -> bool {
+    values.get(net.0 as usize).copied().unwrap_or(false)
+}
+
+// The value of a cover, by its rows.
+fn cover_value(cover: &Cover, ins: &[NameId], values: &[bool]) -> bool {
+    let mut bits = 0u16;
+    for net in ins.iter().rev() {
+        bits = (bits & 0x7fff) << 1 | u16::from(bit_of(values, *net));
+    }
+    let mut fits = false;
+    for row in cover.rows.iter() {
+        fits = fits || bits & row.care == row.value;
+    }
+    !cover.rows.is_empty() && fits == cover.on
+}
+
+// Puts a net's bit.
+fn put_bit(values: &mut [bool], net: NameId, bit: bool) {
+    if let Some(place) = values.get_mut(net.0 as usize) {
+        *place = bit;
+    }
+}
+
+// One cycle of a netlist that is computed line by line, from the bits of its latches, which are among the values: the
+// outputs as text, and the bits that the latches store next.
+fn slow_cycle(
+    alloc: Global,
+    model: &Model,
+    x: &[bool],
+    values: &mut [bool],
+) -> Result<Vec<u8>, AllocError> {
+    for (port, bit) in model.inputs.iter().zip(x.iter()) {
+        put_bit(values, port.name, *bit);
+    }
+    for located in model.statements.iter() {
+        if let Statement::Names { ins, out, cover } = &located.what {
+            let bit = cover_value(cover, ins, values);
+            put_bit(values, *out, bit);
+        }
+    }
+    let mut shown = Vec::new(alloc);
+    for port in model.outputs.iter() {
+        shown.push(if bit_of(values, port.name) {
+            b'1'
+        } else {
+            b'0'
+        })?;
+    }
+    let mut stored = Vec::new(alloc);
+    for located in model.statements.iter() {
+        if let Statement::Latch { d, q, .. } = &located.what {
+            stored.push((*q, bit_of(values, *d)))?;
+        }
+    }
+    for (q, bit) in stored.iter() {
+        put_bit(values, *q, *bit);
+    }
+    Ok(shown)
+}
+
+// The outputs of a written netlist in each cycle, one line each.
+fn slow_run(alloc: Global, text: &[u8], stream: &[&[bool]]) -> Result<Vec<u8>, AllocError> {
+    let mut lines = Vec::new(alloc);
+    if text.len() >= 1000 {
+        return Ok(lines);
+    }
+    let Ok(file) = read(alloc, text) else {
+        return Ok(lines);
+    };
+    if let Some(model) = file.models.first() {
+        let mut values = vec![in alloc; false; model.names.len() as usize]?;
+        for located in model.statements.iter() {
+            if let Statement::Latch { q, init, .. } = &located.what {
+                put_bit(&mut values, *q, *init == Some(1));
+            }
+        }
+        for x in stream {
+            let shown = slow_cycle(alloc, model, x, &mut values)?;
+            lines.extend_from_slice(&shown)?;
+            lines.push(b' ')?;
+        }
+    }
+    Ok(lines)
+}
+
+const COUNTER: &str =
+    ".model counter\n.outputs a0 a1 a2 a3\n.latch n0 a0 0\n.latch n1 a1 0\n.latch n2 a2 0\n.latch n3 a3 0\n\
+    .names a0 n0\n0 1\n.names a0 a1 n1\n10 1\n01 1\n.names a0 a1 c1\n11 1\n.names c1 a2 n2\n10 1\n01 1\n.names c1 a2 c2\n11 1\n\
+    .names c2 a3 n3\n10 1\n01 1\n.end\n";
+
+// Flat netlists begin so, and run so.
+#[test]
+fn netlists_of_cells_are_flattened(rt: HostRuntime) -> Result<(), Fail> {
+    let alloc = rt.alloc();
+    let none: &[bool] = &[];
+    let cases: [(&str, &str, [&[bool]; 6], &str); 4] = [
+        (
+            ".model inv\n.outputs q\n.latch n q 0\n.names q n\n0 1\n.end\n",
+            "# unknown inits 0\n.model inv\n.outputs q\n.latch guard:n0 q 0\n.names q guard:n0\n0 1\n.end\n",
+            [none, none, none, none, none, none],
+            "0 1 0 1 0 1 ",
+        ),
+        (
+            COUNTER,
+            "# unknown inits 0\n.model counter\n.outputs a0\n",
+            [none, none, none, none, none, none],
+            "0000 1000 0100 1100 0010 1010 ",
+        ),
+        (
+            ".model i\n.inputs x\n.outputs a b c d\n.latch x a 2\n.latch x b 3\n.latch x c\n.latch x d 1\n.end\n",
+            "# unknown inits 3\n.model i\n.inputs x\n",
+            [&[false], &[true], &[false], &[true], &[true], &[false]],
+            "0001 0000 1111 0000 1111 1111 ",
+        ),
+        (
+            ".model m\r\n.inputs a \\\n b\n.outputs y\n.names a b y # and\n11 1 # row",
+            "# unknown inits 0\n.model m\n.inputs a\n.inputs b\n.outputs y\n",
+            [
+                &[true, false],
+                &[true, true],
+                &[false, false],
+                &[false, true],
+                &[true, true],
+                &[true, false],
+            ],
+            "0 1 0 0 1 0 ",
+        ),
+    ];
+    for (text, front, stream, shown) in cases {
+        let mut files = held(
+            alloc,
+            "e.blif",
+            text.as_bytes().to_vec(alloc)?,
+            Vec::new(alloc),
+        )?;
+        let ran = run_line(alloc, "flat e.blif", &mut files, Vec::new(alloc))?;
+        assert_eq!(rt; ran.status, 0);
+        assert_eq!(rt; ran.err.bytes(), b"".as_slice());
+        assert!(rt; ran.out.bytes().starts_with(front.as_bytes()));
+        let ran = slow_run(alloc, ran.out.bytes(), stream.as_slice())?;
+        assert_eq!(rt; ran.as_slice(), shown.as_bytes());
     }
     Ok(())
 }
@@ -186,6 +418,9 @@ fn puts_that_fail(rt: HostRuntime) -> Result<(), Fail> {
             let fails = vec![in alloc; (put, taken)]?;
             let ran = run_line(alloc, "flat m.blif", &mut files, fails)?;
             assert!(rt; whole.starts_with(ran.out.bytes()));
+            if put == 1 {
+                assert_eq!(rt; ran.out.bytes().len(), taken as usize);
+            }
             if ran.status == 0 {
                 last = put;
                 break;
@@ -198,16 +433,19 @@ fn puts_that_fail(rt: HostRuntime) -> Result<(), Fail> {
     Ok(())
 }
 
-// A file of the limit is read, and one that is a byte longer isn't looked at.
+// A file of the limit is read up to its first fault, and one that is a byte longer isn't looked at.
 #[test]
 fn files_at_the_limit(rt: HostRuntime) -> Result<(), Fail> {
     let alloc = rt.alloc();
     let cases = [
-        (268_435_456, "impeccable: N1 not yet\n"),
+        (268_435_456, "impeccable: B5 line 1 no model\n"),
         (268_435_457, "impeccable: F1 file too long x.blif\n"),
     ];
     for (length, told) in cases {
-        let text = vec![in alloc; b'x'; length]?;
+        let mut text = vec![in alloc; b'x'; length]?;
+        if let Some(end) = text.get_mut(1) {
+            *end = b'\n';
+        }
         let mut files = held(alloc, "x.blif", text, Vec::new(alloc))?;
         let ran = run_line(alloc, "flat x.blif", &mut files, Vec::new(alloc))?;
         assert_eq!(rt; ran.status, 1);
@@ -228,5 +466,113 @@ fn an_error_output_that_fails(rt: HostRuntime) -> Result<(), Fail> {
     let outcome = run(alloc, &words, &mut files, &mut out, &mut err);
     assert_eq!(rt; outcome.code(), 2);
     assert_eq!(rt; err.bytes(), b"impecca".as_slice());
+    Ok(())
+}
+
+// Settings and the report on their code.
+#[test]
+fn codes_are_reported(rt: HostRuntime) -> Result<(), Fail> {
+    let alloc = rt.alloc();
+    let cases = [
+        (
+            "mode = \"detect\"\nbound = 1\ncheck = [\"000\", \"011\"]\n",
+            "code 5 2\ndistance 1\nword 10\ndetects 0\ncorrects 0\n",
+        ),
+        (
+            "# For a guard that detects three faulty cells in one cycle.\nmode = \"detect\"\nbound = 3\ncheck = [\"0111\", \"1011\", \"1101\", \"1110\"]\n",
+            "code 8 4\ndistance 4\nword 1000\ndetects 3\ncorrects 1\n",
+        ),
+        (
+            "# For a guard that corrects one faulty cell in one cycle.\nmode = \"correct\"\nbound = 1\ncheck = [\"110\", \"101\", \"011\", \"111\"]\n",
+            "code 7 4\ndistance 3\nword 1000\ndetects 2\ncorrects 1\n",
+        ),
+        (
+            "mode = \"detect\"\nbound = 1\ncheck = [\"0111\", \"0111\"]\n",
+            "code 6 2\ndistance 2\nword 11\ndetects 1\ncorrects 0\n",
+        ),
+        (
+            "mode = \"correct\"\nbound = 2\ncheck = [\"111100\", \"001111\"]\n",
+            "code 8 2\ndistance 5\nword 10\ndetects 4\ncorrects 2\n",
+        ),
+    ];
+    for (text, report) in cases {
+        let mut files = held(
+            alloc,
+            "s.toml",
+            text.as_bytes().to_vec(alloc)?,
+            Vec::new(alloc),
+        )?;
+        let ran = run_line(alloc, "code s.toml", &mut files, Vec::new(alloc))?;
+        assert_eq!(rt; ran.status, 0);
+        assert_eq!(rt; ran.out.bytes(), report.as_bytes());
+        assert_eq!(rt; ran.err.bytes(), b"".as_slice());
+    }
+    Ok(())
+}
+
+// What `code` tells of settings that it refuses.
+#[test]
+fn settings_are_refused(rt: HostRuntime) -> Result<(), Fail> {
+    let alloc = rt.alloc();
+    let cases = [
+        ("mode =", "S1 settings are not TOML"),
+        ("mode = \"detect\"\ncheck = [\"1\"]\n", "S2 missing bound"),
+        (
+            "mode = \"both\"\nbound = 1\ncheck = [\"1\"]\n",
+            "S3 bad value mode",
+        ),
+        (
+            "mode = \"detect\"\nbound = 0\ncheck = [\"1\"]\n",
+            "S3 bad value bound",
+        ),
+        (
+            "mode = \"detect\"\nbound = 1\ncheck = [\"1\"]\nspeed = 1\n",
+            "S4 unknown key speed",
+        ),
+        (
+            "mode = \"detect\"\nbound = 1\ncheck = [\"1\"]\n[sbox]\n",
+            "S4 unknown key sbox",
+        ),
+        (
+            "mode = \"detect\"\nbound = 1\ncheck = [\"1\", \"11\"]\n",
+            "C1 bad check matrix",
+        ),
+    ];
+    for (text, told) in cases {
+        let mut files = held(
+            alloc,
+            "s.toml",
+            text.as_bytes().to_vec(alloc)?,
+            Vec::new(alloc),
+        )?;
+        let ran = run_line(alloc, "code s.toml", &mut files, Vec::new(alloc))?;
+        assert_eq!(rt; ran.status, 1);
+        assert_eq!(rt; ran.out.bytes(), b"".as_slice());
+        let line = format!(in alloc; "impeccable: {told}\n")?;
+        assert_eq!(rt; ran.err.bytes(), line.as_bytes());
+    }
+    Ok(())
+}
+
+// Settings that aren't held, and a byte more than settings may have.
+#[test]
+fn settings_are_loaded(rt: HostRuntime) -> Result<(), Fail> {
+    let alloc = rt.alloc();
+    let text = vec![in alloc; b'#'; 16_777_217]?;
+    let mut files = held(alloc, "s.toml", text, Vec::new(alloc))?;
+    let ran = run_line(alloc, "code s.toml", &mut files, Vec::new(alloc))?;
+    assert_eq!(rt; ran.status, 1);
+    assert_eq!(rt; ran.out.bytes(), b"".as_slice());
+    assert_eq!(rt;
+        ran.err.bytes(),
+        b"impeccable: F1 file too long s.toml\n".as_slice()
+    );
+    let ran = run_line(alloc, "code missing.toml", &mut files, Vec::new(alloc))?;
+    assert_eq!(rt; ran.status, 3);
+    assert_eq!(rt; ran.out.bytes(), b"".as_slice());
+    assert_eq!(rt;
+        ran.err.bytes(),
+        b"impeccable: cannot read missing.toml\n".as_slice()
+    );
     Ok(())
 }

@@ -1,6 +1,6 @@
 use Rattle.std.proofs.lemmas.Result.{err_from_is_err_and}
 use Rattle.imp_io.proofs.PutLemmas.{Puts-append, Puts-stopped}
-use Rattle.impeccable.proofs.ended.put_named.Goals as goal
+use Rattle.impeccable.proofs.error_line.put_named.Goals as goal
 
 pub returns-in_err-put : goal.returns-in_err-put
 returns-in_err-put g c =

@@ -1,6 +1,6 @@
 use Rattle.std.proofs.lemmas.Result.{err_from_is_err_and}
 use Rattle.imp_io.proofs.PutLemmas.{Puts-append, Puts-stopped}
-use Rattle.impeccable.proofs.flat.put_line.Goals as goal
+use Rattle.impeccable.proofs.code.put_number.Goals as goal
 
 pub returns-in_err-put : goal.returns-in_err-put
 returns-in_err-put g c =
@@ -10,8 +10,8 @@ returns-in_err-put g c =
 pub returns-in_err-put-2 : goal.returns-in_err-put-2
 returns-in_err-put-2 g c =
     let p = err_from_is_err_and c.from_residual-in_err-put-2.result c.from_residual-in_err-put-2.ensures.1 in
-    rw (p.1, p.2) (Puts-stopped _ _ _ _ _ (Puts-append _ _ _ _ _ _ _ c.in_ok-put.ensures.puts c.in_err-put-2.ensures.puts))
+    rw (p.1, p.2, ← c.format.ensures.text, ← c.as_bytes.ensures.value) (Puts-stopped _ _ _ _ _ (Puts-append _ _ _ _ _ _ _ c.in_ok-put.ensures.puts c.in_err-put-2.ensures.puts))
 
 pub returns : goal.returns
 returns g c =
-    Puts-append _ _ _ _ _ _ _ (Puts-append _ _ _ _ _ _ _ c.in_ok-put.ensures.puts c.in_ok-put-2.ensures.puts) c.put-3.ensures.puts
+    rw (← c.format.ensures.text, ← c.as_bytes.ensures.value) (Puts-append _ _ _ _ _ _ _ (Puts-append _ _ _ _ _ _ _ c.in_ok-put.ensures.puts c.in_ok-put-2.ensures.puts) c.put-3.ensures.puts)

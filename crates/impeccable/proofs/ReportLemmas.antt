@@ -1,0 +1,33 @@
+-- The lines of a report are its text.
+use Rattle.std.proofs.Common.{◌≡◌, ℕ, ◌+◌, ◌-◌, ◌/◌, arith, List, [], ◌∷◌, ◌++◌, codes, length, refl, ap, ◌∙◌, append_assoc}
+use Rattle.std.proofs.lemmas.List.{length-map, map-append}
+use Rattle.std.proofs.lemmas.List.FromFn.{length-map-range_with_len, map-range_with_len_more}
+use Rattle.netlist_spec.specs.Covers.{has_bit}
+use Rattle.netlist_spec.specs.Statements.{bit_char}
+use Rattle.std.specs.Prelude.{decimal}
+use Rattle.impeccable.specs.declared.code.Report.{Report}
+use Rattle.netlist_spec.specs.Codes.{Code, bits_of, data_places}
+use Rattle.netlist_spec.specs.Printed.{bits_text, report_text}
+use Rattle.impeccable.specs.Code.{Measures, number_text, report_lines, size_text, word_line}
+
+regroup : (s d w b z x y : List ℕ) → ((((s ++ d) ++ ((w ++ b) ++ z)) ++ x) ++ y) ≡ (((((s ++ d) ++ w) ++ b) ++ z) ++ x) ++ y
+regroup s d w b z x y = simp append_assoc
+
+lines-of : (n k d w x y : ℕ) → (((size_text n k ++ number_text (codes "distance ") d) ++ word_line k w) ++ number_text (codes "detects ") x) ++ number_text (codes "corrects ") y ≡ (((((size_text n k ++ number_text (codes "distance ") d) ++ codes "word ") ++ bits_text (bits_of k w)) ++ 10 ∷ []) ++ number_text (codes "detects ") x) ++ number_text (codes "corrects ") y
+lines-of n k d w x y = regroup (size_text n k) (number_text (codes "distance ") d) (codes "word ") (bits_text (bits_of k w)) (10 ∷ []) (number_text (codes "detects ") x) (number_text (codes "corrects ") y)
+
+same-report : (code : Code) (n k d w x y : ℕ) → n ≡ data_places code + code.columns → k ≡ data_places code → x ≡ d - 1 → y ≡ (d - 1) / 2
+    → (((((size_text n k ++ number_text (codes "distance ") d) ++ codes "word ") ++ bits_text (bits_of k w)) ++ 10 ∷ []) ++ number_text (codes "detects ") x) ++ number_text (codes "corrects ") y ≡ report_text code d (bits_of (data_places code) w)
+same-report code n k d w x y hn hk hx hy = rw (hn, hk, hx, hy) refl
+
+pub lines-are : (code : Code) (report : Report) → Measures code report → report_lines report ≡ report_text code report.distance (bits_of (data_places code) report.least.0)
+lines-are code report m =
+    lines-of report.places report.data_places report.distance report.least.0 report.detects report.corrects
+    ∙ same-report code report.places report.data_places report.distance report.least.0 report.detects report.corrects m.places m.width m.detects m.corrects
+
+-- one place more
+pub bits-more : (w i : ℕ) → bits_text (bits_of (i + 1) w) ≡ bits_text (bits_of i w) ++ bit_char (has_bit w i) ∷ []
+bits-more w i = ap bits_text (map-range_with_len_more (λ j. has_bit w j) 0 i i (omega arith)) ∙ map-append bit_char (bits_of i w) (has_bit w i ∷ [])
+
+pub bits-long : (w i : ℕ) → length (bits_text (bits_of i w)) ≡ i
+bits-long w i = length-map (bits_of i w) bit_char ∙ length-map-range_with_len (λ j. has_bit w j) 0 i

@@ -1,0 +1,32 @@
+-- What `code` writes.
+use Rattle.std.specs.Prelude.{◌≡◌, ℕ, ◌+◌, ◌-◌, ◌/◌, List, [], ◌∷◌, ◌++◌, codes, decimal}
+use Rattle.netlist_spec.specs.Codes.{Code, IsDistance, IsLeastData, bits_of, data_places}
+use Rattle.netlist_spec.specs.Printed.{bits_text}
+use Rattle.impeccable.specs.declared.code.Report.{Report}
+
+-- lines of a text and a number, of the two sizes, and of the word
+abbrev pub number_text : List ℕ → ℕ → List ℕ
+number_text front n = front ++ decimal n ++ 10 ∷ []
+
+abbrev pub size_text : ℕ → ℕ → List ℕ
+size_text n k = codes "code " ++ decimal n ++ number_text (codes " ") k
+
+abbrev pub word_line : ℕ → ℕ → List ℕ
+word_line places word = codes "word " ++ bits_text (bits_of places word) ++ 10 ∷ []
+
+abbrev pub report_lines : Report → List ℕ
+report_lines report =
+    size_text report.places report.data_places
+    ++ number_text (codes "distance ") report.distance
+    ++ word_line report.data_places report.least.0
+    ++ number_text (codes "detects ") report.detects
+    ++ number_text (codes "corrects ") report.corrects
+
+-- The numbers are those of the code.
+pub record Measures (code : Code) (report : Report) : Type 0 where
+  pub places : report.places ≡ data_places code + code.columns
+  pub width : report.data_places ≡ data_places code
+  pub distance : IsDistance code report.distance
+  pub least : IsLeastData code report.distance (bits_of (data_places code) report.least.0)
+  pub detects : report.detects ≡ report.distance - 1
+  pub corrects : report.corrects ≡ (report.distance - 1) / 2

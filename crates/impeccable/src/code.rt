@@ -1,0 +1,127 @@
+// The command `code SETTINGS`.
+ghost use Rattle.std.specs.Prelude.{◌≡◌, ◌<◌, ◌≤◌, IfOk};
+ghost use Rattle.imp_io.specs.Files.{IsLater};
+ghost use Rattle.imp_io.specs.Sink.{Puts};
+ghost use Rattle.netlist_spec.specs.Codes.{bits_of};
+ghost use Rattle.netlist_spec.specs.Covers.{has_bit};
+ghost use Rattle.netlist_spec.specs.Statements.{bit_char};
+ghost use Rattle.netlist_spec.specs.Commands.{code as code_command};
+ghost use Rattle.netlist_spec.specs.Printed.{bits_text};
+ghost use Rattle.impeccable.specs.Code.{Measures, number_text, report_lines, size_text, word_line};
+ghost use Rattle.impeccable.specs.Stop.{Prepares};
+
+use crate::load::load_named;
+use crate::stop::Stop;
+use arrayvec::ArrayVec;
+use block_code::{Code, Word};
+use distance::distance;
+use imp_io::{Files, Sink, SinkFault};
+use itoa::Buffer;
+use settings::read;
+use std::alloc::Global;
+
+const LONGEST_SETTINGS: usize = 16_777_216;
+
+// The numbers that the report on a code tells, and the least data whose codeword has the weight of its distance.
+#[derive(Clone, Copy, Debug)]
+pub(crate) struct Report {
+    places: u8,
+    data_places: u8,
+    distance: u8,
+    least: Word,
+    detects: u8,
+    corrects: u8,
+}
+
+/// Loads and reads the settings, and measures their code.
+pub(crate) fn read_settings<'a, F: Files>(
+    alloc: Global,
+    settings: &'a str,
+    files: &mut F,
+) -> Result<Report, Stop<'a>>
+    ensures prepares { Prepares (code_command settings.now) report_lines (F.seen files.old) result (F.seen files.new) }
+    ensures few { IfOk result (λ report. report.data_places ≤ 12) }
+    ensures later { IsLater (F.seen files.old) (F.seen files.new) }
+{
+    let bytes = load_named(alloc, files, settings, LONGEST_SETTINGS)?;
+    let settings = read(alloc, &bytes)?;
+    let report = measure(&settings.code);
+    Ok(report)
+}
+
+fn measure(code: &Code) -> Report
+    ensures measured { Measures code.now result }
+    ensures few { result.data_places ≤ 12 }
+{
+    let (distance, least) = distance(code);
+    let data_places = code.k();
+    let detects = distance.saturating_sub(1);
+    Report {
+        places: data_places + code.r(),
+        data_places,
+        distance,
+        least,
+        detects,
+        corrects: detects / 2,
+    }
+}
+
+/// Writes the report, a line for each number.
+pub(crate) fn write_report<O: Sink>(report: &Report, out: &mut O) -> Result<(), SinkFault>
+    requires { report.now.data_places ≤ 12 }
+    ensures { Puts (O.seen out.old) (report_lines report.now) result (O.seen out.new) }
+{
+    put_size(report.places, report.data_places, out)?;
+    put_number(b"distance ", report.distance, out)?;
+    put_word(report.least, report.data_places, out)?;
+    put_number(b"detects ", report.detects, out)?;
+    put_number(b"corrects ", report.corrects, out)
+}
+
+// The line of the numbers of places and of data places.
+fn put_size<O: Sink>(n: u8, k: u8, out: &mut O) -> Result<(), SinkFault>
+    ensures { Puts (O.seen out.old) (size_text n k) result (O.seen out.new) }
+{
+    let mut digits = Buffer::new();
+    out.put(b"code ")?;
+    out.put(digits.format(n).as_bytes())?;
+    put_number(b" ", k, out)
+}
+
+// A line of a text and a number.
+fn put_number<O: Sink>(front: &[u8], n: u8, out: &mut O) -> Result<(), SinkFault>
+    ensures { Puts (O.seen out.old) (number_text front.now n) result (O.seen out.new) }
+{
+    let mut digits = Buffer::new();
+    out.put(front)?;
+    out.put(digits.format(n).as_bytes())?;
+    out.put(b"\n")
+}
+
+fn put_word<O: Sink>(word: Word, places: u8, out: &mut O) -> Result<(), SinkFault>
+    requires { places ≤ 12 }
+    ensures { Puts (O.seen out.old) (word_line places word.0) result (O.seen out.new) }
+{
+    out.put(b"word ")?;
+    out.put(&word_text(word, places))?;
+    out.put(b"\n")
+}
+
+// The places of a word as `0` and `1`, place 0 first.
+fn word_text(word: Word, places: u8) -> ArrayVec<u8, 12>
+    requires { places ≤ 12 }
+    ensures { result.items ≡ bits_text (bits_of places word.0) }
+{
+    let mut text = ArrayVec::new();
+    for i in 0..places {
+        text.push(char_at(word, i));
+    }
+    text
+}
+
+fn char_at(word: Word, i: u8) -> u8
+    requires { i < 32 }
+    ensures { result ≡ bit_char (has_bit word.0 i) }
+{
+    if (word.0 >> i) & 1 == 1 { b'1' } else { b'0' }
+}
