@@ -7,8 +7,7 @@ use Rattle.std.proofs.lemmas.Grind.{common_steps}
 use Rattle.std.proofs.lemmas.List.Folds.{list_all-append}
 use Rattle.netlist_spec.specs.Lines.{is_empty, ends_with_backslash}
 use Rattle.netlist_spec.specs.Netlist.{Name, IsName, IsWordName, is_word_byte, is_reserved}
-use Rattle.netlist_spec.specs.Thin.{is_plain_byte}
-use Rattle.netlist_spec.specs.ThinText.{is_word_byte as is_text_byte, IsPlainWord, HasNoFeed}
+use Rattle.netlist_spec.specs.WrittenLines.{IsPlainWord, HasNoFeed}
 use Rattle.netlist_spec.specs.Written.{Named, IsNamed, Label, given, store, next, check, rail, inner, label_name, given_name, named_clocks, net_name}
 use Rattle.netlist_spec.proofs.OneValue.{passes_both, All_front, All_back}
 use Rattle.netlist_spec.proofs.Occurrences.{turn}
@@ -17,6 +16,10 @@ use Rattle.netlist_spec.proofs.Occurrences.{turn}
 pub record IsLineName (n : Name) : Type 0 where
   pub is_name : IsName n
   pub plain : IsPlainWord n
+
+-- a word byte other than a backslash
+abbrev is_plain_byte : ℕ → Bool
+is_plain_byte b = is_word_byte b && not (b == 92)
 
 -- ---- digits
 
@@ -75,13 +78,13 @@ decimal-no_feed n = digits_pass (λ b. not (b == 10)) digit_no_feed (decimal n) 
 
 -- ---- names of plain bytes
 
-text_byte : (b : ℕ) → is_plain_byte b ≡ true → is_text_byte b ≡ true
+text_byte : (b : ℕ) → is_plain_byte b ≡ true → is_word_byte b ≡ true
 text_byte b h = (passes_both _ _ h).0
 
 no_backslash : (b : ℕ) → is_plain_byte b ≡ true → (b == 92) ≡ false
 no_backslash b h = turn _ (passes_both _ _ h).1
 
-all_text : (n : Name) → list_all is_plain_byte n ≡ true → list_all is_text_byte n ≡ true
+all_text : (n : Name) → list_all is_plain_byte n ≡ true → list_all is_word_byte n ≡ true
 all_text [] h = refl
 all_text (b ∷ n) h = let both = passes_both _ _ h in ap₂ (λ (x y : Bool). x && y) (text_byte b both.0) (all_text n both.1)
 
@@ -116,20 +119,8 @@ two_numbers front middle n k some few short plain between =
 
 -- ---- given names
 
-text_byte_given : (b : ℕ) → is_word_byte b ≡ true → is_text_byte b ≡ true
-text_byte_given b h =
-    let both = passes_both _ _ h in
-    ap₂ (λ (x y : Bool). x && y) (above b both.0) both.1
-  where
-    above : (b : ℕ) → nat_lt 32 b ≡ true → not (nat_le b 32) ≡ true
-    above b h = grind (arith, common_steps, h)
-
-all_text_given : (n : Name) → list_all is_word_byte n ≡ true → list_all is_text_byte n ≡ true
-all_text_given [] h = refl
-all_text_given (b ∷ n) h = let both = passes_both _ _ h in ap₂ (λ (x y : Bool). x && y) (text_byte_given b both.0) (all_text_given n both.1)
-
 pub word-line : (n : Name) → IsWordName n → not (ends_with_backslash n) ≡ true → IsLineName n
-word-line n h closed = record { is_name = h.is_name; plain = record { is_word = some_bytes n h.is_name.0; is_plain = all_text_given n h.bytes; is_closed = closed } }
+word-line n h closed = record { is_name = h.is_name; plain = record { is_word = some_bytes n h.is_name.0; is_plain = h.bytes; is_closed = closed } }
 
 free_closed : (n : Name) → not (is_reserved n) ≡ true → not (ends_with_backslash n) ≡ true
 free_closed n h = second _ (ends_with_backslash n) (turn _ h)

@@ -10,14 +10,13 @@ use Rattle.netlist_spec.specs.Statements.{Said, model_line, inputs_line, outputs
 use Rattle.netlist_spec.specs.Reads.{control_nets, statement_nets, first_appearances, model_of, Reads}
 use Rattle.netlist_spec.specs.Models.{Latch, Gate}
 use Rattle.netlist_spec.specs.Text.{row_cells, cover_lines, latch_said, written_lines, line_text, unknown_line, text_of}
-use Rattle.netlist_spec.specs.ThinText.{IsPlainWord, HasPlainControl, HasPlainNames, HasPlainWords, spelled_lines}
+use Rattle.netlist_spec.specs.WrittenLines.{IsPlainWord, HasPlainControl, HasPlainNames, HasPlainWords, spelled_lines}
 use Rattle.netlist_spec.specs.Gates.{GateForm, constant, one, two, ReadsBelow, LatchRow, gate_reads, gate_rows}
 use Rattle.netlist_spec.specs.Written.{Named, IsNamed, label_name, net_name, output_names, ports_from, statements_from, written_init_of, file_of}
 use Rattle.netlist_spec.specs.WrittenText.{IsOneReading}
 use Rattle.netlist_spec.proofs.OneReading.{one_reading}
 use Rattle.netlist_spec.proofs.OneValue.{All_append, All_back}
-use Rattle.netlist_spec.proofs.ThinCut.{plain_words, lines_back_behind, unknown_comment}
-use Rattle.netlist_spec.proofs.ThinReads.{reads_lines}
+use Rattle.netlist_spec.proofs.WrittenLines.{plain_words, lines_back_behind, unknown_comment, reads_lines}
 use Rattle.blif_write.proofs.LabelNames.{IsLineName, decimal-no_feed, net-line, input-lines, clock-lines, model-line}
 use Rattle.blif_write.proofs.FileLemmas.{written_model}
 use Rattle.blif_write.proofs.NamedFiles.{names-back, latch_at, latch_written, gate_written, numbered_latches, numbered_gates, written_statements, statements-numbered, gates-of}

@@ -33,10 +33,7 @@ pub mod Single
 pub mod Inverter
 pub mod Ring
 pub mod Small
-pub mod ThinCut
-pub mod ThinReads
-pub mod ThinWritten
-pub mod ThinFlat
+pub mod WrittenLines
 pub mod Verdicts
 pub mod SmallCycles
 pub mod OneModel
@@ -47,4 +44,4 @@ pub mod TwoModels
 pub mod SmallMachine
 pub mod SmallFlat
 pub mod SmallPlacement
-pub mod SmallThin
+pub mod SmallReady

@@ -19,7 +19,6 @@ pub mod Values
 pub mod Runs
 pub mod Gates
 pub mod Text
-pub mod Thin
 pub mod FlatReady
 pub mod Size
 pub mod WrittenForm
@@ -52,4 +51,4 @@ pub mod Dual
 pub mod Elaborated
 pub mod Demo
 pub mod Lanes
-pub mod ThinText
+pub mod WrittenLines

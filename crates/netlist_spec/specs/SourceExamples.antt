@@ -1,25 +1,7 @@
--- A thin file and its text, and a source that places a model.
-use Rattle.std.specs.Prelude.{ℕ, List, [], ◌∷◌, codes}
+-- A source that places a model.
+use Rattle.std.specs.Prelude.{[], ◌∷◌, codes}
 use Rattle.netlist_spec.specs.Netlist.{Statement, names, subckt, Model, File}
 use Rattle.netlist_spec.specs.Examples.{bound, ports_on, buffer_cover}
-
-abbrev pub thin_text : List ℕ
-thin_text = codes ".model m\n.outputs b\n.inputs a\n.inputs b\n.end\n"
-
-abbrev pub thin_model : Model
-thin_model =
-    record {
-      name = codes "m";
-      line = 1;
-      names = codes "b" ∷ codes "a" ∷ [];
-      inputs = record { name = codes "a"; line = 3 } ∷ record { name = codes "b"; line = 4 } ∷ [];
-      outputs = record { name = codes "b"; line = 2 } ∷ [];
-      clocks = [];
-      statements = [];
-    }
-
-abbrev pub thin_file : File
-thin_file = record { models = thin_model ∷ [] }
 
 -- a model that copies its input, and one that places it
 abbrev pub copying_model : Model

@@ -1,9 +1,10 @@
 //! Definitions of netlists and of their guard.
 #![tactic(auto)]
 
+mod commands;
 mod readings;
 mod sources;
-mod thin;
+mod written;
 
 ghost use Rattle.std.specs.Prelude.{◌≡◌, ℕ, length, map, List, [], ◌∷◌, Err, None, Ok, Some, codes, true, false, ◌<◌};
 ghost use Rattle.netlist_spec.specs.Examples.{around_file, backward_file, backward_text, forward_file, forward_named, forward_text, box_file, chain_file, box_model, cipher_library, clock_is_read, driven_twice, guard_is_named, not_driven, two_edges, copies_file, copies_model, layer_file, layer_model, counted, counted_with_fault, demo_file, demo_model, five_layout, five_outputs, five_shown, four_layout, reading_model, fourfold_code, unused_model, wide_model, counter_layout, hamming_three, inverter_layout, seventeen_cells, seventeen_lines, weak_code, empty_file, empty_text, empty_written, inverter_contents, inverter_elaborated, inverter_machine, inverter_file, inverter_text, inverter_written, inverter_model, joined_text, with_state_words, long_name_text, parity_code, ring_file, ring_of_models, settings_read, two_latches, settings_text, wide_cover_text};
@@ -47,13 +48,12 @@ ghost use Rattle.netlist_spec.specs.Written.{IsNamed, file_of};
 ghost use Rattle.netlist_spec.specs.Flat.{IsFlat};
 ghost use Rattle.netlist_spec.specs.WrittenText.{IsFlatText};
 
+pub use commands::{
+    code_comes_to_its_settings, commands_have_one_verdict, flat_comes_to_its_netlist,
+};
 pub use readings::{first_faulty_line_decides, texts_are_read_or_refused};
 pub use sources::small_sources_are_taken;
-pub use thin::{
-    code_comes_to_its_settings, commands_have_one_verdict, flat_comes_to_its_netlist,
-    thin_files_are_flattened, thin_files_are_read, thin_texts_have_ports_alone,
-    written_lines_are_cut_back,
-};
+pub use written::written_lines_are_cut_back;
 
 /// Two small texts say the files that a reader of BLIF expects.
 pub fn small_texts_are_read()

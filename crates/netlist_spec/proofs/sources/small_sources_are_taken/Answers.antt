@@ -1,9 +1,6 @@
-use Rattle.netlist_spec.proofs.SmallThin.{text_is_thin, inverter_is_ready}
+use Rattle.netlist_spec.proofs.SmallReady.{inverter_is_ready}
 use Rattle.netlist_spec.proofs.SmallPlacement.{placing_is_sound}
 use Rattle.netlist_spec.proofs.sources.small_sources_are_taken.Goals as goal
-
-pub returns-clause-thin : goal.returns-clause-thin
-returns-clause-thin c = text_is_thin
 
 pub returns-clause-ready : goal.returns-clause-ready
 returns-clause-ready c = inverter_is_ready

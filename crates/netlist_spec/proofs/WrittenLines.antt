@@ -1,16 +1,17 @@
--- Lines whose words are plain are cut back as they were spelled.
+-- Lines whose words are plain are cut back as they were spelled, so a text of them says the file that they declare.
 use Rattle.std.proofs.Common.{◌≡◌, refl, ◌∙◌, ap, ap₂, ℕ, ◌+◌, List, [], ◌∷◌, ◌++◌, map, filter, Bool, true, false, ◌&&◌, not, cond, append_assoc, arith}
 use Rattle.std.proofs.Math.Numerals.{one-add}
-use Rattle.std.specs.Prelude.{◌==◌, ◌^◌, ◌%◌, decimal, ◌<◌, IfSome, Option, Some, None, codes}
-use Rattle.std.specs.List.{AllByRecursion, flat_map, list_all, slice_split, join_with_byte}
+use Rattle.std.specs.Prelude.{◌==◌, nat_lt, IsTrue, ◌^◌, ◌%◌, decimal, ◌<◌, IfSome, Option, Some, None, codes}
+use Rattle.std.specs.List.{AllByRecursion, AllZip, flat_map, list_all, enumerate_from, slice_split, join_with_byte}
 use Rattle.std.proofs.lemmas.Grind.{common_steps}
 use Rattle.std.proofs.lemmas.Fmt.{decimal_by_steps}
 use Rattle.std.proofs.lemmas.List.Folds.{list_all-append}
 use Rattle.netlist_spec.specs.Lines.{Word, Line, is_blank, is_empty, words, without_comment, trimmed, ends_with_backslash, logical_from, with_words, logical_lines}
-use Rattle.netlist_spec.specs.Statements.{Cell, bit_char, cell_char, edge_word, control_word, clocking_words, init_words, bind_word, row_words, Said, model_line, inputs_line, outputs_line, clock_line, names_line, row_line, latch_line, subckt_line, end_line, spelling}
-use Rattle.netlist_spec.specs.Netlist.{Name, Clocking, plain, edge, Bind, Model}
+use Rattle.netlist_spec.specs.Statements.{Cell, bit_char, cell_char, edge_word, control_word, clocking_words, init_words, bind_word, row_words, Said, model_line, inputs_line, outputs_line, clock_line, names_line, row_line, latch_line, subckt_line, end_line, spelling, IsStatement, Says, EachMayFollow, BeginsWithModel}
+use Rattle.netlist_spec.specs.Netlist.{Name, is_word_byte, are_distinct, Clocking, plain, edge, Bind, Model, File}
+use Rattle.netlist_spec.specs.Reads.{models_of, IsWithinLimits, Reads}
 use Rattle.netlist_spec.specs.Text.{line_text, written_lines, unknown_line, model_text}
-use Rattle.netlist_spec.specs.ThinText.{is_word_byte, IsPlainWord, HasPlainControl, HasPlainNames, HasPlainWords, spelled_line, spelled_lines, comment_line, HasNoFeed}
+use Rattle.netlist_spec.specs.WrittenLines.{IsPlainWord, HasPlainControl, HasPlainNames, HasPlainWords, spelled_line, spelled_lines, comment_line, HasNoFeed}
 use Rattle.netlist_spec.proofs.OneValue.{passes_both}
 use Rattle.netlist_spec.proofs.Occurrences.{turn}
 
@@ -30,10 +31,14 @@ IsWordByte b = (is_blank b ≡ false) × IsLineByte b
 no_feed : (b : ℕ) → is_blank b ≡ false → (b == 10) ≡ false
 no_feed b h = grind (arith, common_steps, h)
 
+no_blank : (b : ℕ) → nat_lt 32 b ≡ true → is_blank b ≡ false
+no_blank b h = grind (arith, common_steps, h)
+
 word_byte : (b : ℕ) → is_word_byte b ≡ true → IsWordByte b
 word_byte b h =
     let both = passes_both _ _ h in
-    (turn _ both.0, (no_feed b (turn _ both.0), turn _ both.1))
+    let inside = no_blank b both.0 in
+    (inside, (no_feed b inside, turn _ both.1))
 
 word_bytes : (w : Word) → list_all is_word_byte w ≡ true → AllByRecursion IsWordByte w
 word_bytes [] h = tt
@@ -277,7 +282,7 @@ clocking_plain : (clocking : Clocking) → HasPlainControl clocking → AllByRec
 clocking_plain plain h = tt
 clocking_plain (edge rising control) h = (edge_plain rising, (control_plain control h, tt))
 
-digit_plain : (n : ℕ) → n < 4 → (not (is_blank (48 + n)) && not ((48 + n) == 35)) ≡ true
+digit_plain : (n : ℕ) → n < 4 → is_word_byte (48 + n) ≡ true
 digit_plain n h = grind (arith, common_steps, h)
 
 digit_closed : (n : ℕ) → n < 4 → not ((48 + n) == 92) ≡ true
@@ -317,3 +322,27 @@ plain_words (latch_line d q clocking init) h =
     (computed _ refl refl refl, (h.0, (h.1, plain_append (clocking_words clocking) (init_words init) (clocking_plain clocking h.2) (init_plain init h.3))))
 plain_words (subckt_line model binds) h = (computed _ refl refl refl, (h.0, binds_plain binds h.1))
 plain_words end_line h = (computed _ refl refl refl, tt)
+
+-- ---- reading what was spelled
+
+says_lines : (n : ℕ) (lines : List Said) → AllByRecursion IsStatement lines → AllZip (λ line k. (line.number ≡ k.0) × Says line k.1) (spelled_lines n lines) (enumerate_from n lines)
+says_lines n [] h = tt
+says_lines n (said ∷ lines) h = ((refl, (refl, h.0)), says_lines (n + 1) lines h.1)
+
+numbered_back : (n : ℕ) (lines : List Said) → map (λ k. k.1) (enumerate_from n lines) ≡ lines
+numbered_back n [] = refl
+numbered_back n (said ∷ lines) = ap (λ l. said ∷ l) (numbered_back (n + 1) lines)
+
+-- A text whose logical lines spell these lines says the file that they declare.
+pub reads_lines : (n : ℕ) (lines : List Said) (bytes : List ℕ) (file : File) → logical_lines bytes ≡ spelled_lines n lines → AllByRecursion IsStatement lines
+    → BeginsWithModel lines → EachMayFollow lines → file.models ≡ models_of (enumerate_from n lines) → IsTrue (are_distinct (map (λ m. m.name) file.models)) → IsWithinLimits file → Reads bytes file
+reads_lines n lines bytes file cut statements begins order models distinct limits =
+    record {
+      lines = enumerate_from n lines;
+      cases = rw cut (says_lines n lines statements);
+      begins = rw numbered_back begins;
+      order = rw numbered_back order;
+      models = models;
+      distinct = distinct;
+      limits = limits;
+    }

@@ -1,5 +1,5 @@
-use Rattle.netlist_spec.proofs.ThinCut.{lines_back, lines_back_behind, written_back, plain_words}
-use Rattle.netlist_spec.proofs.thin.written_lines_are_cut_back.Goals as goal
+use Rattle.netlist_spec.proofs.WrittenLines.{lines_back, lines_back_behind, written_back, plain_words}
+use Rattle.netlist_spec.proofs.written.written_lines_are_cut_back.Goals as goal
 
 pub returns-clause-lines : goal.returns-clause-lines
 returns-clause-lines c = lines_back

@@ -1,17 +1,12 @@
--- Texts whose lines are cut back as they were spelled, and the text of a model that has ports alone.
-use Rattle.std.specs.Prelude.{ℕ, ◌<◌, Bool, ◌&&◌, List, [], ◌∷◌, ◌++◌, map, not, ◌==◌, IsTrue, IfSome, ⊤}
-use Rattle.std.specs.List.{AllByRecursion, flat_map, list_all, enumerate_from}
-use Rattle.netlist_spec.specs.Lines.{Word, Line, is_blank, is_empty, ends_with_backslash}
-use Rattle.netlist_spec.specs.Netlist.{Name, Clocking, plain, edge}
+-- Written lines whose words are plain: they are cut back as they were spelled.
+use Rattle.std.specs.Prelude.{ℕ, ◌<◌, List, [], ◌∷◌, ◌++◌, map, not, ◌==◌, IsTrue, IfSome, ⊤}
+use Rattle.std.specs.List.{AllByRecursion, list_all, enumerate_from}
+use Rattle.netlist_spec.specs.Lines.{Word, Line, is_empty, ends_with_backslash}
+use Rattle.netlist_spec.specs.Netlist.{is_word_byte, Clocking, plain, edge}
 use Rattle.netlist_spec.specs.Statements.{Said, model_line, inputs_line, outputs_line, clock_line, names_line, row_line, latch_line, subckt_line, end_line, spelling}
 use Rattle.netlist_spec.specs.Reads.{Numbered}
-use Rattle.netlist_spec.specs.Text.{line_text, unknown_line}
 
--- no blank and no `#`
-abbrev pub is_word_byte : ℕ → Bool
-is_word_byte b = not (is_blank b) && not (b == 35)
-
--- One or more such bytes, of which the last is no backslash: at the end of a line it would join the next one.
+-- One or more word bytes, of which the last is no backslash: at the end of a line it would join the next one.
 pub record IsPlainWord (w : Word) : Type 0 where
   pub is_word : IsTrue (not (is_empty w))
   pub is_plain : IsTrue (list_all is_word_byte w)
@@ -52,12 +47,3 @@ comment_line comment = 35 ∷ (comment ++ 10 ∷ [])
 
 abbrev pub HasNoFeed : List ℕ → Type 0
 HasNoFeed bytes = IsTrue (list_all (λ b. not (b == 10)) bytes)
-
--- The written text of a model that has ports alone: the comment, and one line for each port.
-abbrev pub ports_text : Name → List Name → List Name → List ℕ
-ports_text name inputs outputs =
-    unknown_line 0
-    ++ line_text (model_line name)
-    ++ flat_map (λ n. line_text (inputs_line (n ∷ []))) inputs
-    ++ flat_map (λ n. line_text (outputs_line (n ∷ []))) outputs
-    ++ line_text end_line
