@@ -9,7 +9,6 @@ use Rattle.netlist_spec.specs.CellBits.{IsIndependent}
 use Rattle.netlist_spec.specs.Shaped.{NeverBack, gate_cells}
 use Rattle.netlist_spec.specs.Regions.{Region, CoversGates, HaveOwnNets, AreSeparate}
 use Rattle.netlist_spec.specs.Written.{Named, label_name, latch_statement, latch_statements, gate_statement, gate_statements, line_count, statements_from, file_of}
-use Rattle.netlist_spec.specs.Examples.{empty_model}
 use Rattle.containment.specs.Written.{machine_of, IsWellNamed, NamesRails}
 use Rattle.containment.proofs.WrittenRuns.{facts, names_long, apart, gates_are, latches_are, latch_labels_are, gate_labels_are, shows_back, stores_back}
 use Rattle.containment.proofs.TextBits.{IsTextModel, all_independent, never_back}
@@ -20,7 +19,7 @@ without_lines k (s ∷ ss) = ap (λ (rest : List Statement). s ∷ rest) (withou
 
 -- the main model of the text
 abbrev first_of : List Model → Model
-first_of [] = empty_model
+first_of [] = record { name = []; line = 0; names = []; inputs = []; outputs = []; clocks = []; statements = [] }
 first_of (m ∷ ms) = m
 
 abbrev pub text_main : Named → Model

@@ -7,16 +7,9 @@ pub mod AllCycles
 pub mod Blamed
 pub mod Text
 pub mod Dual
-pub mod Tests
 pub mod Regions
-pub mod Toggle
-pub mod Inverter
-pub mod WrongGuards
-pub mod Wire
 pub mod Layouts
 pub mod Guards
-pub mod Corrector
-pub mod Thrice
 pub mod WrittenRuns
 pub mod TextBits
 pub mod IndependentTexts

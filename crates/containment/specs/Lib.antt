@@ -7,8 +7,4 @@ pub mod Written
 pub mod Texts
 pub mod Far
 pub mod RegionAnswers
-pub mod Toggle
-pub mod Wire
-pub mod WrongGuards
-pub mod Refused
 pub mod Outcomes

@@ -5,8 +5,6 @@ pub mod Statements
 pub mod Reads
 pub mod ReadFaults
 pub mod Said
-pub mod Examples
-pub mod SourceExamples
 pub mod Covers
 pub mod Placed
 pub mod Models

@@ -1,8 +1,0 @@
-use Rattle.netlist_spec.proofs.SmallSettings.{cipher_is_library, settings_are_settings}
-use Rattle.netlist_spec.proofs.small_settings_are_settings.Goals as goal
-
-pub returns-clause-settings : goal.returns-clause-settings
-returns-clause-settings c = settings_are_settings
-
-pub returns-clause-library : goal.returns-clause-library
-returns-clause-library c = cipher_is_library

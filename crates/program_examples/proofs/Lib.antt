@@ -1,0 +1,5 @@
+pub mod Accepted
+pub mod SmallTexts
+pub mod DemoPlain
+pub mod ConeByTest
+pub mod SoundRows

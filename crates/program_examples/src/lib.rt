@@ -1,0 +1,93 @@
+//! Worked examples of what the program reads, answers and prints.
+#![tactic(auto)]
+
+ghost use Rattle.std.specs.Prelude.{◌≡◌, map, [], ◌∷◌, Err, None, Ok, Some, codes, true, false};
+ghost use Rattle.spec_examples.specs.Examples.{weak_code, inverter_file, parity_code, two_latches};
+ghost use Rattle.program_examples.specs.ProgramExamples.{demo_file, demo_model, four_layout, seventeen_cells, seventeen_lines, inverter_contents};
+ghost use Rattle.netlist_spec.specs.Netlist.{cover_inputs};
+ghost use Rattle.netlist_spec.specs.ReadFaults.{too_many, unknown_statement};
+ghost use Rattle.netlist_spec.specs.SoundFaults.{loop, reserved};
+ghost use Rattle.netlist_spec.specs.Commands.{code, command_of, flat, is_cycle, is_demo_size};
+ghost use Rattle.netlist_spec.specs.Verdict.{IsAccepted};
+ghost use Rattle.netlist_spec.specs.Codes.{detect};
+ghost use Rattle.netlist_spec.specs.Demo.{hamming_code, demo_settings};
+ghost use Rattle.netlist_spec.specs.Lines.{plain_lines};
+ghost use Rattle.netlist_spec.specs.Stimulus.{bad_script, more_than_sixteen, no_such_cell, script_of, stimulus_of};
+ghost use Rattle.netlist_spec.specs.Printed.{IsFindingText, IsIndependentText, IsReport, IsRunText, report_text, run_text};
+ghost use Rattle.netlist_spec.specs.ErrorLines.{answer_line, done, error_line, found, no_memory, read_fault as failed_load, refusal_text, refused, usage, write_fault};
+ghost use Rattle.netlist_spec.specs.Refusals.{too_small, unreadable, unsound};
+ghost use Rattle.netlist_spec.specs.Plain.{IsPlain};
+
+/// Lines of stimulus and script aren't joined.
+pub fn small_lines_are_plain()
+    ensures words { map (λ l. l.words) (plain_lines (codes "1 \\\n\n2 # x\n")) ≡ (codes "1" ∷ codes "\\" ∷ []) ∷ (codes "2" ∷ []) ∷ [] }
+    ensures numbers { map (λ l. l.number) (plain_lines (codes "1 \\\n\n2 # x\n")) ≡ 1 ∷ 3 ∷ [] }
+    ensures comment { stimulus_of 0 (codes "- # c\n\n-\n") ≡ Ok ([] ∷ [] ∷ []) }
+    ensures backslash { stimulus_of 1 (codes "1\\\n") ≡ Err 1 }
+    ensures same_cycle { script_of (codes "a" ∷ []) (codes "000001 a 1\n1 a 0\n") ≡ Err (bad_script 2) }
+    ensures form_first { script_of (codes "a" ∷ []) (codes "1 zz 2\n") ≡ Err (bad_script 1) }
+{}
+
+/// A small source with a small code is accepted.
+pub fn small_pair_is_accepted()
+    ensures { IsAccepted inverter_contents (codes "s.toml") (codes "inv.blif") }
+{}
+
+/// Stimulus and script files, and their first faults.
+pub fn small_scripts_are_read()
+    ensures no_inputs { stimulus_of 0 (codes "-\n# idle\n-\n") ≡ Ok ([] ∷ [] ∷ []) }
+    ensures two_inputs { stimulus_of 2 (codes "00\n01\n") ≡ Ok ((false ∷ false ∷ []) ∷ (false ∷ true ∷ []) ∷ []) }
+    ensures bad_stimulus { stimulus_of 0 (codes "0") ≡ Err 1 }
+    ensures entry { script_of (codes "q" ∷ []) (codes "\n1 q 0\n") ≡ Ok (record { cycle = 1; cell = codes "q"; bit = false } ∷ []) }
+    ensures short { script_of (codes "q" ∷ []) (codes "1 q") ≡ Err (bad_script 1) }
+    ensures long { script_of (codes "q" ∷ []) (codes "1000000 q 1") ≡ Err (bad_script 1) }
+    ensures cell { script_of (codes "q" ∷ []) (codes "0 nosuch 1\n") ≡ Err (no_such_cell 1) }
+    ensures again { script_of (codes "q" ∷ []) (codes "1 q 0\n1 q 1\n") ≡ Err (bad_script 2) }
+    ensures many { script_of seventeen_cells seventeen_lines ≡ Err (more_than_sixteen 17) }
+{}
+
+/// Printed lines.
+pub fn small_lines_are_printed()
+    ensures report { report_text weak_code 1 (true ∷ false ∷ []) ≡ codes "code 5 2\ndistance 1\nword 10\ndetects 0\ncorrects 0\n" }
+    ensures run { run_text ([] ∷ (true ∷ false ∷ []) ∷ []) ≡ codes "-\n10\n" }
+    ensures refusal { error_line (refusal_text (unreadable (unknown_statement 2 (46 ∷ 255 ∷ [])))) ≡ codes "impeccable: B1 line 2 unknown statement .\\xff\n" }
+    ensures ring { error_line (refusal_text (unsound (loop (codes "p" ∷ codes "q" ∷ [])))) ≡ codes "impeccable: E9 loop p q\n" }
+{}
+
+/// Words that spell a command, and words that spell none.
+pub fn small_words_are_commands()
+    ensures flat { command_of (codes "flat" ∷ codes "a" ∷ []) ≡ Some (flat (codes "a")) }
+    ensures code { command_of (codes "code" ∷ codes "a" ∷ []) ≡ Some (code (codes "a")) }
+    ensures none { command_of [] ≡ None }
+    ensures few { command_of (codes "flat" ∷ []) ≡ None }
+    ensures many { command_of (codes "flat" ∷ codes "a" ∷ codes "b" ∷ []) ≡ None }
+    ensures other { command_of (codes "flatten" ∷ codes "a" ∷ []) ≡ None }
+    ensures cycle { (is_cycle (codes "x") ≡ false) × (is_cycle (codes "000042") ≡ true) × (is_cycle (codes "0000042") ≡ false) }
+    ensures sizes { (is_demo_size (codes "0") ≡ false) × (is_demo_size (codes "00") ≡ false) × (is_demo_size (codes "01") ≡ true) × (is_demo_size (codes "64") ≡ true) × (is_demo_size (codes "65") ≡ false) × (is_demo_size (codes "001") ≡ false) }
+{}
+
+/// The whole text of a simulation, of a report on a code and of two audits.
+pub fn small_texts_are_printed()
+    ensures run { IsRunText inverter_file ([] ∷ [] ∷ []) [] (codes "0\n1\n") }
+    ensures report { IsReport parity_code (codes "code 2 1\ndistance 2\nword 1\ndetects 1\ncorrects 0\n") }
+    ensures independent { IsIndependentText (record { models = two_latches (codes "x") ∷ [] }) (codes "independent 4\na latch a\nb latch b\nn latch a\ny output y\n") }
+    ensures finding { IsFindingText (record { models = two_latches (codes "n") ∷ [] }) (codes "shared n latch a latch b\n") }
+{}
+
+/// The line of each kind of answer.
+pub fn small_answers_are_told()
+    ensures done { answer_line done ≡ None }
+    ensures found { answer_line found ≡ None }
+    ensures usage { answer_line usage ≡ Some (codes "impeccable: usage: flat NETLIST, code SETTINGS, guard SETTINGS NETLIST, sim NETLIST STIMULUS SCRIPT, audit NETLIST, campaign SETTINGS NETLIST STIMULUS CYCLE, demo N\n") }
+    ensures read { answer_line (failed_load (codes "a b")) ≡ Some (codes "impeccable: cannot read a\\x20b\n") }
+    ensures write { answer_line write_fault ≡ Some (codes "impeccable: cannot write\n") }
+    ensures memory { answer_line no_memory ≡ Some (codes "impeccable: no memory\n") }
+    ensures count { answer_line (refused (unreadable (too_many 2 cover_inputs))) ≡ Some (codes "impeccable: B7 line 2 too many cover\n") }
+    ensures distance { answer_line (refused (too_small 2 3)) ≡ Some (codes "impeccable: S5 distance 2 below 3\n") }
+    ensures reserved { answer_line (refused (unsound (reserved (codes "a\\")))) ≡ Some (codes "impeccable: E10 reserved a\\x5c\n") }
+{}
+
+/// The size of the guard of the demo design for n = 1.
+pub fn small_demo_has_a_size()
+    ensures { IsPlain demo_file demo_settings.library demo_model hamming_code detect 3 four_layout 4724 }
+{}

@@ -1,0 +1,6 @@
+pub mod Examples
+pub mod SourceExamples
+pub mod Toggle
+pub mod Wire
+pub mod WrongGuards
+pub mod Refused
