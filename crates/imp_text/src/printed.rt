@@ -1,6 +1,6 @@
 // Names as lines of errors and reports print them.
 ghost use Rattle.std.specs.Prelude.{◌≡◌, ◌<◌};
-ghost use Rattle.netlist_spec.specs.ErrorLines.{escape as escape_of, hex_digit as hex_digit_of};
+ghost use Rattle.netlist_spec.specs.Escapes.{escape as escape_of, hex_digit as hex_digit_of};
 
 use arrayvec::ArrayVec;
 

@@ -1,6 +1,6 @@
 // Counts that have a limit.
 ghost use Rattle.std.specs.Prelude.{◌≡◌};
-ghost use Rattle.netlist_spec.specs.ErrorLines.{quantity_word};
+ghost use Rattle.netlist_spec.specs.Escapes.{quantity_word};
 ghost use Rattle.imp_text.specs.Quantities.{quantity_of};
 
 /// A count whose limit a netlist may pass.

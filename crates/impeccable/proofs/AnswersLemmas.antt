@@ -4,9 +4,9 @@ use Rattle.std.specs.Prelude.{IfSome}
 use Rattle.imp_io.specs.Files.{FilesSeen, bytes_at}
 use Rattle.imp_io.specs.Sink.{SinkSeen}
 use Rattle.imp_io.proofs.LoadLemmas.{IsLater-refl}
-use Rattle.netlist_spec.specs.Commands.{Command}
-use Rattle.netlist_spec.specs.Refusals.{Refusal}
-use Rattle.netlist_spec.specs.Verdict.{Contents, IsVerdict, refused}
+use Rattle.program_spec.specs.Commands.{Command}
+use Rattle.program_spec.specs.Refusals.{Refusal}
+use Rattle.program_spec.specs.Verdict.{Contents, IsVerdict, refused}
 use Rattle.impeccable.specs.declared.outcome.Outcome.{Outcome}
 use Rattle.impeccable.specs.declared.outcome.Outcome.TheVariants.{Done, Found, Usage, Refused, ReadFault, WriteFault, NoMemory}
 use Rattle.impeccable.specs.Outcome.{refusal_of}
@@ -15,7 +15,7 @@ use Rattle.impeccable.specs.declared.ended.Ended.TheVariants.{Done as EDone, Usa
 use Rattle.impeccable.specs.Ended.{Says, answer_of, outcome_of}
 use Rattle.impeccable.specs.Ends.{Ends}
 use Rattle.impeccable.specs.Answers.{Answers, IsComplete, RefusesThere, Tells}
-use Rattle.netlist_spec.proofs.Verdicts.{one_verdict, passes_not_refused}
+use Rattle.program_spec.proofs.Verdicts.{one_verdict, passes_not_refused}
 
 -- a verdict that refuses refuses one thing
 same-refusal : (command : Command) (contents : Contents) (a b : Refusal) → IsVerdict command contents (refused a) → IsVerdict command contents (refused b) → a ≡ b

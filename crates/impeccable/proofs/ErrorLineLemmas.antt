@@ -5,7 +5,8 @@ use Rattle.std.specs.List.{flat_map}
 use Rattle.imp_io.specs.Sink.{SinkSeen, Puts}
 use Rattle.imp_io.specs.declared.fault.SinkFault.{SinkFault}
 use Rattle.netlist_spec.specs.Netlist.{Quantity, cover_inputs, model_inputs, model_outputs, model_clocks, model_latches, file_statements, source_cost}
-use Rattle.netlist_spec.specs.ErrorLines.{escape, at_line, error_line, quantity_word, refusal_text}
+use Rattle.program_spec.specs.ErrorLines.{at_line, error_line, refusal_text}
+use Rattle.netlist_spec.specs.Escapes.{escape, quantity_word}
 use Rattle.impeccable.specs.declared.outcome.Refusal.{Refusal}
 use Rattle.impeccable.specs.Ended.{named_line, place_text}
 use Rattle.impeccable.specs.Outcome.{refusal_of}

@@ -10,11 +10,11 @@ use Rattle.netlist_spec.specs.Covers.{empty_library}
 use Rattle.netlist_spec.specs.FlatReady.{IsFlatReady}
 use Rattle.netlist_spec.specs.ReadFaults.{ReadFault as Fault, read_fault}
 use Rattle.netlist_spec.specs.Reads.{Reads}
-use Rattle.netlist_spec.specs.Refusals.{unreadable}
+use Rattle.program_spec.specs.Refusals.{unreadable}
 use Rattle.netlist_spec.specs.WrittenText.{IsFlatText}
 use Rattle.netlist_spec.specs.Written.{Named}
-use Rattle.netlist_spec.specs.Commands.{flat, netlist_limit}
-use Rattle.netlist_spec.specs.Verdict.{Contents, ComesToLoad, IsVerdict, Verdict, refused, without}
+use Rattle.program_spec.specs.Commands.{flat, netlist_limit}
+use Rattle.program_spec.specs.Verdict.{Contents, ComesToLoad, IsVerdict, Verdict, refused, without}
 use Rattle.blif_read.specs.declared.fault.BlifFault.{BlifFault}
 use Rattle.blif_read.specs.declared.fault.BlifFault.TheVariants.{UnknownStatement, BadRow, MixedCover, BadLatch, NoModel, LongName, TooMany, TwiceModel, BadSubckt, AfterEnd, WordCount, NoMemory as NoRoom}
 use Rattle.blif_read.specs.Faults.{fault_of, IsFault}

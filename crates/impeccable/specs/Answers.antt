@@ -4,13 +4,13 @@ use Rattle.std.specs.Io.KnownBytes.{Appends}
 use Rattle.imp_io.specs.Counts.{Rose, RoseBy, Stayed}
 use Rattle.imp_io.specs.Files.{FilesSeen, bytes_at, own_count}
 use Rattle.imp_io.specs.Sink.{SinkSeen, AppendsPrefix}
-use Rattle.netlist_spec.specs.Commands.{Command, NamedFile, files_of}
-use Rattle.netlist_spec.specs.Refusals.{Refusal, file_too_long}
-use Rattle.netlist_spec.specs.Verdict.{Contents, IsVerdict, ComesToLoad, IsTextFor, passes, refused}
+use Rattle.program_spec.specs.Commands.{Command, NamedFile, files_of}
+use Rattle.program_spec.specs.Refusals.{Refusal, file_too_long}
+use Rattle.program_spec.specs.Verdict.{Contents, IsVerdict, ComesToLoad, IsTextFor, passes, refused}
 use Rattle.impeccable.specs.declared.outcome.Refusal.{Refusal as Told}
 use Rattle.impeccable.specs.declared.outcome.Outcome.{Outcome}
 use Rattle.impeccable.specs.declared.outcome.Outcome.TheVariants.{Done, Found, Usage, Refused, ReadFault, WriteFault, NoMemory}
-use Rattle.netlist_spec.specs.ErrorLines.{usage, refused as refused_line, read_fault, write_fault, no_memory}
+use Rattle.program_spec.specs.ErrorLines.{usage, refused as refused_line, read_fault, write_fault, no_memory}
 use Rattle.impeccable.specs.Outcome.{refusal_of}
 use Rattle.impeccable.specs.Ended.{Says}
 

@@ -1,7 +1,7 @@
 -- What `code` writes.
 use Rattle.std.specs.Prelude.{◌≡◌, ℕ, ◌+◌, ◌-◌, ◌/◌, List, [], ◌∷◌, ◌++◌, codes, decimal}
 use Rattle.netlist_spec.specs.Codes.{Code, IsDistance, IsLeastData, bits_of, data_places}
-use Rattle.netlist_spec.specs.Printed.{bits_text}
+use Rattle.program_spec.specs.Printed.{bits_text}
 use Rattle.impeccable.specs.declared.code.Report.{Report}
 
 -- lines of a text and a number, of the two sizes, and of the word

@@ -1,5 +1,5 @@
 -- A command as the program keeps it.
-use Rattle.netlist_spec.specs.Commands.{Command, flat, code}
+use Rattle.program_spec.specs.Commands.{Command, flat, code}
 use Rattle.impeccable.specs.declared.command.Command.{Command as Kept}
 use Rattle.impeccable.specs.declared.command.Command.TheVariants.{Flat, Code}
 

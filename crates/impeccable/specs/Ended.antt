@@ -5,7 +5,8 @@ use Rattle.std.specs.Io.KnownBytes.{Appends}
 use Rattle.imp_io.specs.Counts.{Stayed}
 use Rattle.imp_io.specs.Sink.{SinkSeen, AppendsPrefix, Puts}
 use Rattle.imp_io.specs.declared.fault.SinkFault.{SinkFault}
-use Rattle.netlist_spec.specs.ErrorLines.{Answer, done, usage, refused, read_fault, write_fault, no_memory, answer_line, escape}
+use Rattle.program_spec.specs.ErrorLines.{Answer, done, usage, refused, read_fault, write_fault, no_memory, answer_line}
+use Rattle.netlist_spec.specs.Escapes.{escape}
 use Rattle.impeccable.specs.declared.ended.Ended.{Ended}
 use Rattle.impeccable.specs.declared.ended.Ended.TheVariants.{Done, Usage, Refused, ReadFault, WriteFault, NoMemory}
 use Rattle.impeccable.specs.declared.outcome.Outcome.{Outcome}

@@ -2,7 +2,7 @@
 use Rattle.std.specs.Prelude.{◌≡◌}
 use Rattle.imp_io.specs.Files.{FilesSeen}
 use Rattle.imp_io.specs.Sink.{SinkSeen}
-use Rattle.netlist_spec.specs.Commands.{Command}
+use Rattle.program_spec.specs.Commands.{Command}
 use Rattle.impeccable.specs.declared.ended.Ended.{Ended}
 use Rattle.impeccable.specs.declared.ended.Ended.TheVariants.{Done, Usage, Refused, ReadFault, WriteFault, NoMemory}
 use Rattle.impeccable.specs.declared.outcome.Outcome.TheVariants.{Done as ADone, Refused as ARefused, WriteFault as AWriteFault, NoMemory as ANoMemory}

@@ -3,8 +3,8 @@ use Rattle.std.specs.Prelude.{◌≡◌, ℕ, ◌+◌, ◌≤◌, ◌<◌, List,
 use Rattle.std.specs.declared.alloc.Global.{Global}
 use Rattle.imp_io.specs.Counts.{Rose, RoseBy}
 use Rattle.imp_io.specs.Files.{FilesSeen, bytes_at, own_count}
-use Rattle.netlist_spec.specs.Commands.{Command}
-use Rattle.netlist_spec.specs.Verdict.{IsVerdict, IsTextFor, passes, refused}
+use Rattle.program_spec.specs.Commands.{Command}
+use Rattle.program_spec.specs.Verdict.{IsVerdict, IsTextFor, passes, refused}
 use Rattle.impeccable.specs.declared.stop.Stop.{Stop}
 use Rattle.impeccable.specs.declared.stop.Stop.TheVariants.{Refused, ReadFault, NoMemory}
 use Rattle.impeccable.specs.declared.outcome.Refusal.TheVariants.{FileTooLong, UnknownStatement, BadRow, MixedCover, BadLatch, NoModel, LongName, TooMany, TwiceModel, BadSubckt, AfterEnd, WordCount, NotToml, Missing, BadValue, UnknownKey, BadShape}

@@ -5,8 +5,8 @@ ghost use Rattle.imp_io.specs.Sink.{Puts};
 ghost use Rattle.netlist_spec.specs.Codes.{bits_of};
 ghost use Rattle.netlist_spec.specs.Covers.{has_bit};
 ghost use Rattle.netlist_spec.specs.Statements.{bit_char};
-ghost use Rattle.netlist_spec.specs.Commands.{code as code_command};
-ghost use Rattle.netlist_spec.specs.Printed.{bits_text};
+ghost use Rattle.program_spec.specs.Commands.{code as code_command};
+ghost use Rattle.program_spec.specs.Printed.{bits_text};
 ghost use Rattle.impeccable.specs.Code.{Measures, number_text, report_lines, size_text, word_line};
 ghost use Rattle.impeccable.specs.Stop.{Prepares};
 

@@ -1,7 +1,7 @@
 // What the words of the command line ask for.
 ghost use Rattle.std.specs.Prelude.{◌≡◌, map, string_bytes};
 ghost use Rattle.std.specs.Option.{option_map};
-ghost use Rattle.netlist_spec.specs.Commands.{command_of};
+ghost use Rattle.program_spec.specs.Commands.{command_of};
 ghost use Rattle.impeccable.specs.Command.{as_asked};
 
 /// A command with the names of its files.

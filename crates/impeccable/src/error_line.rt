@@ -1,7 +1,7 @@
 // Lines on the error output. They take no memory.
 ghost use Rattle.std.specs.Prelude.{◌≡◌, ◌∷◌, ◌++◌, [], decimal};
 ghost use Rattle.imp_io.specs.Sink.{Puts};
-ghost use Rattle.netlist_spec.specs.ErrorLines.{error_line, refusal_text};
+ghost use Rattle.program_spec.specs.ErrorLines.{error_line, refusal_text};
 ghost use Rattle.impeccable.specs.Ended.{named_line, place_text};
 ghost use Rattle.impeccable.specs.Outcome.{refusal_of};
 

@@ -2,7 +2,7 @@
 ghost use Rattle.std.specs.Prelude.{◌≡◌, ◌≤◌, length};
 ghost use Rattle.std.specs.List.{flat_map};
 ghost use Rattle.imp_io.specs.Sink.{Puts};
-ghost use Rattle.netlist_spec.specs.ErrorLines.{escape as escape_of};
+ghost use Rattle.netlist_spec.specs.Escapes.{escape as escape_of};
 
 use arrayvec::ArrayVec;
 use imp_io::{Sink, SinkFault};

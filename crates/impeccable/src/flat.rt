@@ -1,7 +1,7 @@
 // The command `flat NETLIST`, up to what it writes.
 ghost use Rattle.std.specs.Prelude.{ℕ, List, All, IfOk};
 ghost use Rattle.imp_io.specs.Files.{IsLater};
-ghost use Rattle.netlist_spec.specs.Commands.{flat as flat_command};
+ghost use Rattle.program_spec.specs.Commands.{flat as flat_command};
 ghost use Rattle.netlist_spec.specs.Covers.{empty_library};
 ghost use Rattle.netlist_spec.specs.FileRules.{IsFile};
 ghost use Rattle.netlist_spec.specs.FlatReady.{IsFlatReady};

@@ -1,8 +1,8 @@
 // The top call.
 ghost use Rattle.std.specs.Prelude.{◌≡◌, ◌↔◌, map, string_bytes, IfSome};
 ghost use Rattle.imp_io.specs.Files.{IsLater};
-ghost use Rattle.netlist_spec.specs.Commands.{code, command_of, flat};
-ghost use Rattle.netlist_spec.specs.ErrorLines.{usage};
+ghost use Rattle.program_spec.specs.Commands.{code, command_of, flat};
+ghost use Rattle.program_spec.specs.ErrorLines.{usage};
 ghost use Rattle.impeccable.specs.Answers.{Answers, IsComplete, RefusesThere, Tells};
 ghost use Rattle.impeccable.specs.Ended.{Says};
 ghost use Rattle.impeccable.specs.Command.{as_asked};

@@ -23,4 +23,3 @@ pub mod OneRun
 pub mod OneValue
 pub mod Bits
 pub mod WrittenLines
-pub mod Verdicts

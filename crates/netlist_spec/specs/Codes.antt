@@ -1,5 +1,5 @@
 -- Systematic linear binary codes.
-use Rattle.std.specs.Prelude.{◌≡◌, ◌≢◌, ℕ, suc, ◌+◌, ◌*◌, ◌<◌, ◌≤◌, ◌⊎◌, false, List, [], ◌∷◌, ◌++◌, length, map, take, drop, replicate, count_by, if◌then◌else◌, Contains, AllPairs}
+use Rattle.std.specs.Prelude.{◌≡◌, ◌≢◌, ℕ, suc, ◌+◌, ◌*◌, ◌<◌, ◌≤◌, ◌⊎◌, true, false, List, [], ◌∷◌, ◌++◌, length, map, take, drop, replicate, count_by, if◌then◌else◌, Contains, AllPairs}
 use Rattle.std.specs.List.{AllByRecursion, range_with_len}
 use Rattle.netlist_spec.specs.Covers.{differ, has_bit, number_of}
 use Rattle.netlist_spec.specs.SourceRun.{Bits}
@@ -123,3 +123,11 @@ rail_count correct t = 0
 -- the bits of a number, the lowest first
 abbrev pub bits_of : ℕ → ℕ → Bits
 bits_of width n = map (λ i. has_bit n i) (range_with_len 0 width)
+
+-- the extended Hamming code of distance 4
+abbrev pub hamming_code : Code
+hamming_code =
+    record {
+      columns = 4;
+      rows = (false ∷ true ∷ true ∷ true ∷ []) ∷ (true ∷ false ∷ true ∷ true ∷ []) ∷ (true ∷ true ∷ false ∷ true ∷ []) ∷ (true ∷ true ∷ true ∷ false ∷ []) ∷ [];
+    }

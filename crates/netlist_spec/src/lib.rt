@@ -1,7 +1,6 @@
 //! Definitions of netlists and of their guard.
 #![tactic(auto)]
 
-mod commands;
 mod readings;
 mod written;
 
@@ -24,9 +23,6 @@ ghost use Rattle.netlist_spec.specs.Dual.{IsDualGuard};
 ghost use Rattle.netlist_spec.specs.Models.{data_inputs};
 ghost use Rattle.std.specs.List.{AllByRecursion};
 
-pub use commands::{
-    code_comes_to_its_settings, commands_have_one_verdict, flat_comes_to_its_netlist,
-};
 pub use readings::{first_faulty_line_decides, texts_are_read_or_refused};
 pub use written::written_lines_are_cut_back;
 

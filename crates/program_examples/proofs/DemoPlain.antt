@@ -4,7 +4,8 @@ use Rattle.std.specs.Fmt.{digits}
 use Rattle.netlist_spec.specs.Netlist.{Name}
 use Rattle.netlist_spec.specs.Codes.{detect}
 use Rattle.netlist_spec.specs.Plain.{ConeCostOf, RestsOnLatch, BitCost, IsPlain}
-use Rattle.netlist_spec.specs.Demo.{hamming_code, demo_settings, numbered}
+use Rattle.program_spec.specs.Demo.{demo_settings, numbered}
+use Rattle.netlist_spec.specs.Codes.{hamming_code}
 use Rattle.program_examples.specs.ProgramExamples.{demo_model, demo_file, four_layout}
 use Rattle.program_examples.proofs.ConeByTest.{drives_some, cone_marks}
 

@@ -3,7 +3,7 @@ use Rattle.std.proofs.Common.{◌≡◌, refl, ℕ, List, [], ◌∷◌, ◌++�
 use Rattle.std.specs.Fmt.{digits}
 use Rattle.netlist_spec.specs.Netlist.{Model, File}
 use Rattle.netlist_spec.specs.Covers.{Library, empty_library}
-use Rattle.netlist_spec.specs.Demo.{demo_settings, demo_netlist}
+use Rattle.program_spec.specs.Demo.{demo_settings, demo_netlist}
 use Rattle.netlist_spec.specs.Size.{whole_cost}
 use Rattle.netlist_spec.specs.SoundFaults.{twice_in, no_such_model_in, bad_port_in, undriven_in, clocking_in, reserved_in}
 use Rattle.netlist_spec.specs.Lines.{logical_lines}

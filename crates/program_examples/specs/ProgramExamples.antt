@@ -3,8 +3,8 @@ use Rattle.std.specs.Prelude.{ℕ, ◌+◌, List, [], ◌∷◌, ◌++◌, map, 
 use Rattle.std.specs.List.{flat_map}
 use Rattle.netlist_spec.specs.Netlist.{Name, same_name, plain, names, latch, subckt, Model, File, Statement}
 use Rattle.netlist_spec.specs.Words.{Layout}
-use Rattle.netlist_spec.specs.Verdict.{Contents}
-use Rattle.netlist_spec.specs.Demo.{numbered, state_bits, moved_to, box_binds}
+use Rattle.program_spec.specs.Verdict.{Contents}
+use Rattle.program_spec.specs.Demo.{numbered, state_bits, moved_to, box_binds}
 use Rattle.spec_examples.specs.Examples.{inverter_text, buffer_cover}
 
 -- settings for a code of one data place and one check place

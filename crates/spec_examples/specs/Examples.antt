@@ -9,7 +9,7 @@ use Rattle.netlist_spec.specs.Words.{Settings, Layout}
 use Rattle.netlist_spec.specs.Gates.{one, Machine}
 use Rattle.netlist_spec.specs.Written.{Named, given, inner}
 use Rattle.netlist_spec.specs.Elaborated.{Elaborated}
-use Rattle.netlist_spec.specs.Demo.{hamming_code}
+use Rattle.netlist_spec.specs.Codes.{hamming_code}
 
 abbrev pub empty_text : List ℕ
 empty_text = codes ".model e\n.end\n"

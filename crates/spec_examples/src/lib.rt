@@ -18,7 +18,7 @@ ghost use Rattle.netlist_spec.specs.Sound.{IsSound};
 ghost use Rattle.netlist_spec.specs.Shaped.{check_outputs, guard_latches, rail_outputs};
 ghost use Rattle.netlist_spec.specs.Codes.{apart, correct, detect};
 ghost use Rattle.netlist_spec.specs.Size.{cover_cost};
-ghost use Rattle.netlist_spec.specs.Demo.{hamming_code};
+ghost use Rattle.netlist_spec.specs.Codes.{hamming_code};
 ghost use Rattle.netlist_spec.specs.Lines.{logical_lines};
 ghost use Rattle.netlist_spec.specs.Digits.{decimal_of};
 ghost use Rattle.netlist_spec.specs.CellBits.{IsFinding, IsIndependent, latch_bit, shared, reads_output, unused, wide};

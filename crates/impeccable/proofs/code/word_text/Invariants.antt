@@ -1,7 +1,7 @@
 -- The places so far stand there.
 use Rattle.std.proofs.Common.{◌≡◌, ◌≤◌}
 use Rattle.netlist_spec.specs.Codes.{bits_of}
-use Rattle.netlist_spec.specs.Printed.{bits_text}
+use Rattle.program_spec.specs.Printed.{bits_text}
 use Rattle.impeccable.proofs.code.word_text.Given as goal
 
 abbrev pub invariant-loop-i : goal.invariant-loop-i

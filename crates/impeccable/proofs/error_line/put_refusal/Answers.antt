@@ -1,6 +1,6 @@
 -- The line of each refusal is the text, the number and the words that are put.
 use Rattle.std.proofs.Common.{codes, refl, ap, ◌++◌, ◌∷◌, [], sym, ◌∙◌}
-use Rattle.netlist_spec.specs.ErrorLines.{escaped, quantity_word}
+use Rattle.netlist_spec.specs.Escapes.{escaped, quantity_word}
 use Rattle.imp_text.specs.Quantities.{quantity_of}
 use Rattle.impeccable.proofs.ErrorLineLemmas.{numbered, word_escaped, Puts-refusal}
 use Rattle.impeccable.proofs.error_line.put_refusal.Goals as goal

@@ -1,7 +1,7 @@
 -- The bytes so far are printed, each as at most four.
 use Rattle.std.proofs.Common.{◌≡◌, ◌*◌, ◌≤◌, length, take}
 use Rattle.std.specs.List.{flat_map}
-use Rattle.netlist_spec.specs.ErrorLines.{escape}
+use Rattle.netlist_spec.specs.Escapes.{escape}
 use Rattle.impeccable.proofs.escaped.escaped.Given as goal
 
 abbrev pub invariant-loop-b : goal.invariant-loop-b

@@ -5,7 +5,7 @@ use Rattle.std.proofs.lemmas.Grind.{flat_map-append}
 use Rattle.std.proofs.lemmas.List.{nil_from_length}
 use Rattle.std.proofs.lemmas.Result.{err_from_is_err_and}
 use Rattle.imp_io.proofs.PutLemmas.{Puts-append, Puts-nil, Puts-stopped}
-use Rattle.netlist_spec.specs.ErrorLines.{escape}
+use Rattle.netlist_spec.specs.Escapes.{escape}
 use Rattle.impeccable.proofs.WriteLemmas.{Puts-text}
 use Rattle.impeccable.proofs.escaped.put_escaped.Goals as goal
 

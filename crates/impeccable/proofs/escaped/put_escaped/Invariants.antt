@@ -3,7 +3,7 @@ use Rattle.std.proofs.Common.{◌≡◌, ℕ, List, ◌++◌, Ok}
 use Rattle.std.specs.List.{flat_map}
 use Rattle.std.specs.Slice.Iter.{chunks_rest, chunks_size}
 use Rattle.imp_io.specs.Sink.{Puts}
-use Rattle.netlist_spec.specs.ErrorLines.{escape}
+use Rattle.netlist_spec.specs.Escapes.{escape}
 use Rattle.impeccable.proofs.escaped.put_escaped.Given as goal
 
 abbrev pub invariant-loop-chunk : goal.invariant-loop-chunk

@@ -1,8 +1,9 @@
-//! Laws of the verdicts of commands.
+//! Definitions of commands, of their verdicts, and of what is read and printed for them.
+#![tactic(auto)]
 
 ghost use Rattle.std.specs.Prelude.{◌≡◌, ℕ, ◌↔◌, List};
-ghost use Rattle.netlist_spec.specs.Commands.{Command, code, flat};
-ghost use Rattle.netlist_spec.specs.Verdict.{ComesToLoad, Contents, IsVerdict, Verdict};
+ghost use Rattle.program_spec.specs.Commands.{Command, code, flat};
+ghost use Rattle.program_spec.specs.Verdict.{ComesToLoad, Contents, IsVerdict, Verdict};
 
 /// A command has at most one verdict over the contents of its files.
 pub fn commands_have_one_verdict()

@@ -15,12 +15,12 @@ use Rattle.netlist_spec.specs.Plain.{IsPlain}
 use Rattle.netlist_spec.specs.SettingsFile.{settings_of_bytes, settings_without_library_of}
 use Rattle.netlist_spec.specs.SourceRun.{Stream}
 use Rattle.netlist_spec.specs.Runs.{Fault}
-use Rattle.netlist_spec.specs.Stimulus.{stimulus_of, script_of}
+use Rattle.program_spec.specs.Stimulus.{stimulus_of, script_of}
 use Rattle.netlist_spec.specs.FlatReady.{IsFlatReady}
 use Rattle.netlist_spec.specs.WrittenText.{IsFlatText}
-use Rattle.netlist_spec.specs.Printed.{IsReport}
-use Rattle.netlist_spec.specs.Commands.{Command, flat, code, netlist_limit, other_limit}
-use Rattle.netlist_spec.specs.Refusals.{Refusal, not_yet, file_too_long, unreadable, bad_settings, too_small, unsound, bad_layout, guard_too_large, out_of_order, bad_stimulus, bad_script_line}
+use Rattle.program_spec.specs.Printed.{IsReport}
+use Rattle.program_spec.specs.Commands.{Command, flat, code, netlist_limit, other_limit}
+use Rattle.program_spec.specs.Refusals.{Refusal, not_yet, file_too_long, unreadable, bad_settings, too_small, unsound, bad_layout, guard_too_large, out_of_order, bad_stimulus, bad_script_line}
 
 -- what the files hold: the bytes of each name that is held
 abbrev pub Contents : Type 0

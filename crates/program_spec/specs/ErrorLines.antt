@@ -1,36 +1,14 @@
 -- What a run of the program may come to, the status that it ends with, and the line that it puts to its error output.
-use Rattle.std.specs.Prelude.{ℕ, ◌+◌, ◌/◌, ◌%◌, ◌&&◌, List, [], ◌∷◌, ◌++◌, codes, decimal, Option, Some, None, nat_le, nat_lt, ◌==◌, not, if◌then◌else◌}
+use Rattle.std.specs.Prelude.{ℕ, ◌+◌, List, [], ◌∷◌, ◌++◌, codes, decimal, Option, Some, None}
 use Rattle.std.specs.List.{flat_map}
-use Rattle.netlist_spec.specs.Netlist.{Name, Quantity, cover_inputs, model_inputs, model_outputs, model_clocks, model_latches, file_statements, source_cost}
 use Rattle.netlist_spec.specs.ReadFaults.{ReadFault, unknown_statement, bad_row, mixed_cover, bad_latch, no_model, long_name, too_many, twice_model, bad_subckt, after_end, word_count}
 use Rattle.netlist_spec.specs.SettingsFile.{SettingsFault, not_toml, missing, bad_value, unknown_key, bad_shape}
 use Rattle.netlist_spec.specs.SoundFaults.{SoundFault, twice, no_such_model, bad_port, recursion, latch_inside, too_deep, undriven, bad_clocking, loop, reserved, too_large}
 use Rattle.netlist_spec.specs.Words.{LayoutFault, no_such_net, in_two_words, not_in_a_word}
 use Rattle.netlist_spec.specs.Ordered.{OrderFault, unordered, has_subckt}
-use Rattle.netlist_spec.specs.Stimulus.{ScriptFault, bad_script, no_such_cell, more_than_sixteen}
-use Rattle.netlist_spec.specs.Refusals.{Refusal, file_too_long, unreadable, bad_settings, too_small, unsound, bad_layout, guard_too_large, out_of_order, bad_stimulus, bad_script_line, not_yet}
-
--- one digit of `0` to `9` and `a` to `f`
-abbrev pub hex_digit : ℕ → ℕ
-hex_digit n = if nat_lt n 10 then 48 + n else 87 + n
-
--- A byte from 33 to 126 other than a backslash is written as it is, each other one as `\x` and two digits.
-abbrev pub escape : ℕ → List ℕ
-escape b =
-    if nat_le 33 b && nat_le b 126 && not (b == 92) then b ∷ []
-    else 92 ∷ 120 ∷ hex_digit (b / 16) ∷ hex_digit (b % 16) ∷ []
-
-abbrev pub escaped : Name → List ℕ
-escaped name = flat_map escape name
-
-abbrev pub quantity_word : Quantity → List ℕ
-quantity_word cover_inputs = codes "cover"
-quantity_word model_inputs = codes "inputs"
-quantity_word model_outputs = codes "outputs"
-quantity_word model_clocks = codes "clocks"
-quantity_word model_latches = codes "latches"
-quantity_word file_statements = codes "statements"
-quantity_word source_cost = codes "source"
+use Rattle.program_spec.specs.Stimulus.{ScriptFault, bad_script, no_such_cell, more_than_sixteen}
+use Rattle.program_spec.specs.Refusals.{Refusal, file_too_long, unreadable, bad_settings, too_small, unsound, bad_layout, guard_too_large, out_of_order, bad_stimulus, bad_script_line, not_yet}
+use Rattle.netlist_spec.specs.Escapes.{escaped, quantity_word}
 
 -- `B2 line 3 bad row`
 abbrev pub at_line : List ℕ → ℕ → List ℕ → List ℕ

@@ -1,5 +1,0 @@
-use Rattle.netlist_spec.proofs.Verdicts.{one_verdict}
-use Rattle.netlist_spec.proofs.commands.commands_have_one_verdict.Goals as goal
-
-pub returns : goal.returns
-returns c = one_verdict
