@@ -6,7 +6,7 @@ use Rattle.std.proofs.lemmas.List.Recursion.{is_count_by}
 use Rattle.std.specs.List.{AllByRecursion}
 use Rattle.netlist_spec.specs.Covers.{differ}
 use Rattle.netlist_spec.specs.SourceRun.{Bits}
-use Rattle.netlist_spec.specs.Codes.{Code, data_places, IsCode, zeros, sum_of, checks_by, checks_of, encoded, weight, apart, IsDistance, IsCodeword, Decodes, syndrome_of}
+use Rattle.guard_spec.specs.Codes.{Code, data_places, IsCode, zeros, sum_of, checks_by, checks_of, encoded, weight, apart, IsDistance, IsCodeword, Decodes, syndrome_of}
 
 differ_sym : (x y : Bool) → differ x y ≡ differ y x
 differ_sym true true = refl

@@ -8,7 +8,7 @@ use Rattle.std.proofs.lemmas.List.FromFn.{take-map-range_with_len}
 use Rattle.std.proofs.lemmas.List.{length-map, length-take-le, take-map, get_or-take}
 use Rattle.netlist_spec.specs.Covers.{has_bit}
 use Rattle.netlist_spec.specs.SourceRun.{Bits}
-use Rattle.netlist_spec.specs.Codes.{Code, data_places, IsCode, bits_of, sum_of, checks_by, checks_of, encoded, weight, syndrome_of, IsCodeword}
+use Rattle.guard_spec.specs.Codes.{Code, data_places, IsCode, bits_of, sum_of, checks_by, checks_of, encoded, weight, syndrome_of, IsCodeword}
 use Rattle.block_code.specs.Shape.{HasShape, code_of}
 use Rattle.block_code.proofs.Coding.{checks_take, codeword_from_zero, zero_from_codeword}
 use Rattle.block_code.proofs.Words.{length_bits, bits_xor, bits_split, bits_joined, joined_below, joined_or, weight_bits, ones_zero}

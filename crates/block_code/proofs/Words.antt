@@ -10,7 +10,7 @@ use Rattle.std.proofs.lemmas.List.{map_more, length-map, length-take-le}
 use Rattle.std.proofs.lemmas.List.FromFn.{fill_by_all, length-map-range_with_len, get_or-map-range_with_len, map-range_with_len_more}
 use Rattle.netlist_spec.specs.Covers.{differ, has_bit, number_of}
 use Rattle.netlist_spec.specs.SourceRun.{Bits}
-use Rattle.netlist_spec.specs.Codes.{bits_of, zeros, sum_of, checks_by, weight}
+use Rattle.guard_spec.specs.Codes.{bits_of, zeros, sum_of, checks_by, weight}
 use Rattle.block_code.proofs.Coding.{ones, weight_ones, sum_zeros_right, checks_push}
 
 pub length_bits : (w n : ℕ) → length (bits_of w n) ≡ w

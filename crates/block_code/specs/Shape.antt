@@ -1,6 +1,6 @@
 -- Check matrices whose rows are given as numbers.
 use Rattle.std.specs.Prelude.{◌≡◌, ℕ, ◌^◌, ◌<◌, ◌≤◌, List, length, map, All}
-use Rattle.netlist_spec.specs.Codes.{Code, bits_of}
+use Rattle.guard_spec.specs.Codes.{Code, bits_of}
 
 -- 1 to 12 rows of 1 to 16 columns, where bit j of a row is column j, so that a row is below 2^r
 pub record HasShape (k r : ℕ) (rows : List ℕ) : Type 0 where

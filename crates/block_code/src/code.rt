@@ -1,6 +1,6 @@
 // Check matrices, codewords and syndromes.
 ghost use Rattle.std.specs.Prelude.{◌≡◌, ℕ, ◌+◌, ◌^◌, ◌<◌, ◌≤◌, ◌↔◌, length, map, slice_get, IsOk, IfOk, All};
-ghost use Rattle.netlist_spec.specs.Codes.{data_places, IsCode, encoded, checks_by, checks_of, syndrome_of, IsCodeword, bits_of};
+ghost use Rattle.guard_spec.specs.Codes.{data_places, IsCode, encoded, checks_by, checks_of, syndrome_of, IsCodeword, bits_of};
 ghost use Rattle.block_code.specs.Shape.{HasShape, code_of};
 
 use crate::Word;
@@ -28,7 +28,7 @@ pub struct Code {
 
 impl Model for Code {
     ghost use Rattle.std.specs.Prelude.{length};
-    ghost use Rattle.netlist_spec.specs.Codes.{Code as CheckMatrix};
+    ghost use Rattle.guard_spec.specs.Codes.{Code as CheckMatrix};
     ghost use Rattle.block_code.specs.Shape.{HasShape, code_of};
 
     ghost Value = { CheckMatrix };

@@ -1,7 +1,7 @@
 // Laws of linear codes: what the distance of a code tells of words. They are those of any textbook on coding theory.
 ghost use Rattle.std.specs.Prelude.{◌≡◌, ◌≢◌, ℕ, ◌+◌, ◌*◌, ◌<◌, ◌≤◌, ◌↔◌, length, take};
 ghost use Rattle.netlist_spec.specs.SourceRun.{Bits};
-ghost use Rattle.netlist_spec.specs.Codes.{Code, data_places, IsCode, encoded, weight, apart, IsDistance, IsCodeword, Decodes, syndrome_of};
+ghost use Rattle.guard_spec.specs.Codes.{Code, data_places, IsCode, encoded, weight, apart, IsDistance, IsCodeword, Decodes, syndrome_of};
 
 /// The number of places in which two words differ is a distance.
 pub fn words_have_distances()

@@ -1,6 +1,6 @@
 // Words of a code as numbers.
 ghost use Rattle.std.specs.Prelude.{◌≡◌, ℕ, ◌^◌, ◌<◌};
-ghost use Rattle.netlist_spec.specs.Codes.{weight, bits_of};
+ghost use Rattle.guard_spec.specs.Codes.{weight, bits_of};
 
 /// A word of up to 32 places; place i is bit i, and bits behind its places are 0.
 #[derive(Clone, Copy, Debug, PartialEq, Eq, PartialOrd, Ord, Hash)]

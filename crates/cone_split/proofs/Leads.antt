@@ -3,7 +3,7 @@ use Rattle.std.proofs.Common.{◌≡◌, sym, ◌∙◌, ap, subst, ℕ, ◌+◌
 use Rattle.std.specs.List.{AllZip}
 use Rattle.std.proofs.lemmas.Option.{slice_get_within, slice_get-get_or}
 use Rattle.netlist_spec.specs.Gates.{GateForm, GateList, gate_reads}
-use Rattle.netlist_spec.specs.Regions.{Region, LiesIn, LeadsToEnd, is_read as leads_on}
+use Rattle.netlist_spec.specs.GateRanges.{Region, LiesIn, LeadsToEnd, is_read as leads_on}
 use Rattle.gate_net.specs.GateNet.{net_count}
 use Rattle.cone_split.specs.Cones.{IsInCone, is_root, is_read}
 use Rattle.cone_split.specs.Copies.{AreConeOf, IsImage, AreCopied}

@@ -6,7 +6,7 @@ use Rattle.std.proofs.lemmas.List.{length-append}
 use Rattle.netlist_spec.specs.Covers.{differ, has_bit}
 use Rattle.netlist_spec.specs.Gates.{GateForm, constant, one, two, GateList, IsGateList, AnswersWithin, IsEvaluation, ReadsNet, bit_number, gate_answer, gate_reads}
 use Rattle.netlist_spec.specs.SourceRun.{Bits}
-use Rattle.netlist_spec.specs.Regions.{Region, LiesIn, LeadsToEnd, is_end, is_read}
+use Rattle.netlist_spec.specs.GateRanges.{Region, LiesIn, LeadsToEnd, is_end, is_read}
 use Rattle.gate_net.specs.GateNet.{net_count}
 use Rattle.cone_split.specs.Ranges.{ReadsAlone, AllLead}
 use Rattle.cone_split.proofs.Cells.{contains_head, contains_tail, contains_cases}

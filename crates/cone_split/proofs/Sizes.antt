@@ -4,7 +4,7 @@ use Rattle.std.specs.List.{AllByRecursion, AllZip, range_with_len}
 use Rattle.std.proofs.lemmas.List.FromFn.{length-range_with_len}
 use Rattle.std.proofs.lemmas.List.Sums.{sum_by-cons}
 use Rattle.netlist_spec.specs.Gates.{GateList, Machine}
-use Rattle.netlist_spec.specs.Plain.{AreMarked, marked_sum, IsGateReached, same_net, read_by, GateConeCost}
+use Rattle.netlist_spec.specs.Cones.{AreMarked, marked_sum, IsGateReached, same_net, read_by, GateConeCost}
 use Rattle.gate_net.specs.GateNet.{net_count}
 use Rattle.cone_split.specs.Cones.{IsInCone, is_root, is_read, IsConeSize}
 use Rattle.cone_split.specs.Copies.{Rises, AreConeOf}

@@ -6,7 +6,7 @@ use Rattle.std.proofs.lemmas.Option.{slice_get_within, slice_get-get_or}
 use Rattle.std.proofs.lemmas.List.{length-append, append_assoc, append-nil, length-drop}
 use Rattle.netlist_spec.specs.Covers.{parity}
 use Rattle.netlist_spec.specs.Gates.{GateForm, GateList, IsGateList, AnswersWithin, ReadsNet, gate_reads}
-use Rattle.netlist_spec.specs.Regions.{Region, LiesIn, LeadsToEnd, is_end, is_read as leads_on}
+use Rattle.netlist_spec.specs.GateRanges.{Region, LiesIn, LeadsToEnd, is_end, is_read as leads_on}
 use Rattle.gate_net.specs.declared.gate.NetId.{NetId}
 use Rattle.gate_net.specs.GateNet.{net_count}
 use Rattle.cone_split.specs.Cones.{IsInCone, is_root, is_read, HasRoom}

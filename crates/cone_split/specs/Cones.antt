@@ -2,7 +2,7 @@
 use Rattle.std.specs.Prelude.{◌≡◌, ℕ, ◌+◌, ◌≤◌, ◌^◌, Bool, List, length, Contains}
 use Rattle.std.specs.List.{range_with_len}
 use Rattle.netlist_spec.specs.Gates.{GateList, ReadsNet}
-use Rattle.netlist_spec.specs.Plain.{AreMarked, marked_sum}
+use Rattle.netlist_spec.specs.Cones.{AreMarked, marked_sum}
 use Rattle.gate_net.specs.GateNet.{net_count}
 
 -- The cone of some roots: the roots, and each net that a gate of the cone reads.

@@ -2,7 +2,7 @@
 use Rattle.std.specs.Prelude.{◌≡◌, ℕ, ◌+◌, ◌≤◌, ◌⊎◌, Bool, List, ◌++◌, length, map, Contains}
 use Rattle.netlist_spec.specs.Covers.{parity}
 use Rattle.netlist_spec.specs.Gates.{GateForm, GateList, AnswersWithin, IsEvaluation, ReadsNet}
-use Rattle.netlist_spec.specs.Regions.{Region, LiesIn, LeadsToEnd}
+use Rattle.netlist_spec.specs.GateRanges.{Region, LiesIn, LeadsToEnd}
 use Rattle.gate_net.specs.GateNet.{net_count}
 use Rattle.cone_split.specs.Cones.{IsConeSize}
 

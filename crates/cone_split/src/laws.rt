@@ -2,8 +2,8 @@
 ghost use Rattle.std.specs.Prelude.{◌≡◌, ℕ, ◌≤◌, Bool, List, ◌++◌, length, map, sum};
 ghost use Rattle.std.specs.List.{AllZip};
 ghost use Rattle.netlist_spec.specs.Gates.{AnswersWithin, GateForm, GateList, IsEvaluation, IsGateList, Machine};
-ghost use Rattle.netlist_spec.specs.Plain.{GateConeCost};
-ghost use Rattle.netlist_spec.specs.Regions.{LiesIn, Region};
+ghost use Rattle.netlist_spec.specs.Cones.{GateConeCost};
+ghost use Rattle.netlist_spec.specs.GateRanges.{LiesIn, Region};
 ghost use Rattle.netlist_spec.specs.SourceRun.{Bits};
 ghost use Rattle.gate_net.specs.GateNet.{net_count};
 ghost use Rattle.cone_split.specs.Cones.{IsConeSize};

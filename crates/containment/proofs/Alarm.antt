@@ -6,15 +6,15 @@ use Rattle.std.proofs.lemmas.List.{length-map, get_or-map, get_or_past}
 use Rattle.std.specs.List.{list_any, range_with_len}
 use Rattle.netlist_spec.specs.SourceRun.{Bits}
 use Rattle.netlist_spec.specs.Gates.{IsMachine, ForcedNets, GateValues}
-use Rattle.netlist_spec.specs.Codes.{Code}
-use Rattle.netlist_spec.specs.Words.{Layout}
+use Rattle.guard_spec.specs.Codes.{Code}
+use Rattle.guard_spec.specs.Words.{Layout}
 use Rattle.netlist_spec.specs.CellBits.{output_bit}
-use Rattle.netlist_spec.specs.Contained.{is_alarmed}
+use Rattle.guard_spec.specs.Contained.{is_alarmed}
 use Rattle.containment.specs.Cycles.{AreAmong}
 use Rattle.containment.proofs.Counting.{number_of_cells, ranges_are_distinct, some_fails}
 use Rattle.containment.proofs.Owners.{owned, untouched, one_output}
-use Rattle.netlist_spec.specs.Rails.{RailsTellOf}
-use Rattle.netlist_spec.specs.Regions.{Guarded, CoversGates, IsUntouched}
+use Rattle.guard_spec.specs.Rails.{RailsTellOf}
+use Rattle.guard_spec.specs.Regions.{Guarded, CoversGates, IsUntouched}
 
 pub any_at : (xs : Bits) (i : ℕ) → get_or xs i false ≡ true → list_any (λ b. b) xs ≡ true
 any_at [] i h = cc h

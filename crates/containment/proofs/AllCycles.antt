@@ -7,11 +7,11 @@ use Rattle.std.proofs.lemmas.List.Elements.{All-from_recursion}
 use Rattle.std.specs.List.{AllByRecursion, list_any, enumerate_from}
 use Rattle.netlist_spec.specs.SourceRun.{Bits, Stream, CycleStep, RunsFrom}
 use Rattle.netlist_spec.specs.Gates.{Machine, ForcedNets, NetFault, forced_nets_at, latch_nets, GateValues, GateStep, GateRun}
-use Rattle.netlist_spec.specs.Codes.{Code, data_places, encoded, apart, IsCodeword, Decodes, Mode, detect, correct}
-use Rattle.netlist_spec.specs.Words.{Layout, bits_at, codewords, output_word}
+use Rattle.guard_spec.specs.Codes.{Code, data_places, encoded, apart, IsCodeword, Decodes, Mode, detect, correct}
+use Rattle.guard_spec.specs.Words.{Layout, bits_at, codewords, output_word}
 use Rattle.netlist_spec.specs.CellBits.{latch_bit}
-use Rattle.netlist_spec.specs.Contained.{at_cycle, is_alarmed, IsWholeAt, DecodesAt, IsEncodedAt, IsQuiet, IsDetected, IsCorrected}
-use Rattle.netlist_spec.specs.Count.{StateWordsAre, IsNear}
+use Rattle.guard_spec.specs.Contained.{at_cycle, is_alarmed, IsWholeAt, DecodesAt, IsEncodedAt, IsQuiet, IsDetected, IsCorrected}
+use Rattle.guard_spec.specs.Count.{StateWordsAre, IsNear}
 use Rattle.containment.specs.Nets.{IsFaultless}
 use Rattle.containment.specs.Built.{IsCoded, IsBuilt}
 use Rattle.containment.specs.Cycles.{AreAmong}
@@ -21,8 +21,8 @@ use Rattle.containment.proofs.Owners.{owned}
 use Rattle.containment.proofs.OneCycle.{words_weaker, no_word, no_output_word, state_words_tell, output_words_tell}
 use Rattle.containment.proofs.Cycle.{IsRightBut, right_long, state_near, stores_right, stores_near, outputs_near, wrong_in_few, each_numbered, each_passes}
 use Rattle.containment.proofs.Alarm.{sounds, stays_quiet}
-use Rattle.netlist_spec.specs.Regions.{Guarded}
-use Rattle.netlist_spec.specs.Rails.{SomeStateWord, SomeOutputWord, IsNoCodeword, SomeNoCodeword, RailsTell, RailsTellOf}
+use Rattle.guard_spec.specs.Regions.{Guarded}
+use Rattle.guard_spec.specs.Rails.{SomeStateWord, SomeOutputWord, IsNoCodeword, SomeNoCodeword, RailsTell, RailsTellOf}
 
 -- A run, cycle by cycle.
 

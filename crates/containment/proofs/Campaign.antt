@@ -6,17 +6,17 @@ use Rattle.std.proofs.lemmas.List.Recursion.{is_count_by}
 use Rattle.std.specs.List.{AllByRecursion, AllZip}
 use Rattle.netlist_spec.specs.Netlist.{Name, Model, File}
 use Rattle.netlist_spec.specs.Placed.{port_names}
-use Rattle.netlist_spec.specs.Shaped.{HasShape, check_outputs, rail_outputs}
-use Rattle.netlist_spec.specs.Containment.{ContainsFaults, IsGuardFor}
+use Rattle.guard_spec.specs.Shaped.{HasShape, check_outputs, rail_outputs}
+use Rattle.guard_spec.specs.Containment.{ContainsFaults, IsGuardFor}
 use Rattle.netlist_spec.specs.Covers.{Library}
 use Rattle.netlist_spec.specs.Models.{main_model, init_bits, output_nets}
 use Rattle.netlist_spec.specs.SourceRun.{Bits, Stream, CycleStep, RunsFrom, SourceCycle, SourceRun}
 use Rattle.netlist_spec.specs.Ordered.{cell_nets}
 use Rattle.netlist_spec.specs.Runs.{Fault, FaultyCycle, Run, IsWithin, IsMoving}
-use Rattle.netlist_spec.specs.Codes.{Code, IsCode, data_places, Mode, detect, correct}
-use Rattle.netlist_spec.specs.Words.{Settings, Layout, IsPartition}
-use Rattle.netlist_spec.specs.Contained.{at_cycle, IsDetected, Detects, Corrects}
-use Rattle.netlist_spec.specs.Tally.{right, alarmed, decoded, wrong, Outcome, outcome_of, Tally, is_same_outcome, single_faults, IsTallyBeside, IsTally, IsMachineTally}
+use Rattle.guard_spec.specs.Codes.{Code, IsCode, data_places, Mode, detect, correct}
+use Rattle.guard_spec.specs.Words.{Settings, Layout, IsPartition}
+use Rattle.guard_spec.specs.Contained.{at_cycle, IsDetected, Detects, Corrects}
+use Rattle.guard_spec.specs.Tally.{right, alarmed, decoded, wrong, Outcome, outcome_of, Tally, is_same_outcome, single_faults, IsTallyBeside, IsTally, IsMachineTally}
 use Rattle.netlist_spec.specs.Gates.{Machine, GateStep}
 use Rattle.netlist_spec.specs.Elaborated.{IsMachineOf}
 use Rattle.containment.proofs.Text.{runs_by}

@@ -6,7 +6,7 @@ use Rattle.std.proofs.lemmas.List.Recursion.{is_count_by}
 use Rattle.std.specs.List.{AllByRecursion, list_any, range_with_len, flat_map}
 use Rattle.netlist_spec.specs.Covers.{differ}
 use Rattle.netlist_spec.specs.SourceRun.{Bits}
-use Rattle.netlist_spec.specs.Codes.{apart}
+use Rattle.guard_spec.specs.Codes.{apart}
 use Rattle.block_code.proofs.Coding.{differ_self}
 
 abbrev pub number : (ℕ → Bool) → List ℕ → ℕ

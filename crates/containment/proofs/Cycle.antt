@@ -8,10 +8,10 @@ use Rattle.std.proofs.lemmas.List.FromFn.{length-range_with_len, get_or-range_wi
 use Rattle.std.specs.List.{AllByRecursion, list_any, range_with_len, enumerate_from, flat_map}
 use Rattle.netlist_spec.specs.SourceRun.{Bits}
 use Rattle.netlist_spec.specs.Gates.{Machine, IsMachine, ForcedNets, shown_net, latch_nets, GateValues, GateStep}
-use Rattle.netlist_spec.specs.Codes.{Code, IsCode, checks_of, encoded, apart, Mode}
-use Rattle.netlist_spec.specs.Words.{Words, Layout, IsPartition, bits_at, all_numbers, codewords, output_word}
+use Rattle.guard_spec.specs.Codes.{Code, IsCode, checks_of, encoded, apart, Mode}
+use Rattle.guard_spec.specs.Words.{Words, Layout, IsPartition, bits_at, all_numbers, codewords, output_word}
 use Rattle.netlist_spec.specs.CellBits.{latch_bit, output_bit}
-use Rattle.netlist_spec.specs.Count.{right_outputs, StateWordsAre, IsNear}
+use Rattle.guard_spec.specs.Count.{right_outputs, StateWordsAre, IsNear}
 use Rattle.netlist_spec.proofs.OneValue.{All_append}
 use Rattle.containment.specs.Cycles.{AreAmong, IsWrongInFew}
 use Rattle.containment.specs.Built.{IsCoded, IsBuilt}
@@ -19,7 +19,7 @@ use Rattle.block_code.proofs.Coding.{length_checks}
 use Rattle.containment.proofs.Counting.{number, number_counts, AreDistinct, number_below, ranges_are_distinct, distinct_behind, parts_are_distinct, parts_are_below, range_as_map, apart_by_cells, lists_apart, not_any_at, All_below}
 use Rattle.containment.proofs.Owners.{owned, owned_from_cell, untouched, one_latch, one_output}
 use Rattle.containment.proofs.OneCycle.{zip_at, zip_length, shows_own, same_lengths, words_near}
-use Rattle.netlist_spec.specs.Regions.{Guarded, CoversGates}
+use Rattle.guard_spec.specs.Regions.{Guarded, CoversGates}
 
 -- Stored bits are right but for the latches to which some cells belong.
 abbrev pub IsRightBut : Guarded → List ℕ → Bits → Bits → Type 0

@@ -5,12 +5,12 @@ use Rattle.std.proofs.lemmas.List.Elements.{All-from_recursion}
 use Rattle.std.specs.List.{AllByRecursion, enumerate_from}
 use Rattle.netlist_spec.specs.SourceRun.{Bits, Stream}
 use Rattle.netlist_spec.specs.Gates.{Machine, NetFault, forced_nets_at, latch_nets, GateValues, GateStep, GateRun}
-use Rattle.netlist_spec.specs.Codes.{Code, data_places, IsCode, encoded, apart, IsDistance, IsCodeword, Decodes, correct, IsFar}
-use Rattle.netlist_spec.specs.Words.{Words, Layout, bits_at, codewords, output_word}
+use Rattle.guard_spec.specs.Codes.{Code, data_places, IsCode, encoded, apart, IsDistance, IsCodeword, Decodes, correct, IsFar}
+use Rattle.guard_spec.specs.Words.{Words, Layout, bits_at, codewords, output_word}
 use Rattle.netlist_spec.specs.CellBits.{latch_bit}
-use Rattle.netlist_spec.specs.Contained.{at_cycle, is_alarmed, DecodesAt}
-use Rattle.netlist_spec.specs.Count.{StateWordsAre}
-use Rattle.netlist_spec.specs.Dual.{DecodesOrTells}
+use Rattle.guard_spec.specs.Contained.{at_cycle, is_alarmed, DecodesAt}
+use Rattle.guard_spec.specs.Count.{StateWordsAre}
+use Rattle.guard_spec.specs.Dual.{DecodesOrTells}
 use Rattle.containment.specs.Built.{IsCoded, IsBuilt}
 use Rattle.block_code.proofs.Coding.{apart_sym, apart_same, apart_triangle, same_or_not, words_apart, decodes_near}
 use Rattle.containment.proofs.Owners.{owned}
@@ -20,8 +20,8 @@ use Rattle.containment.proofs.Alarm.{sounds}
 use Rattle.containment.proofs.Blamed.{steady_blame}
 use Rattle.containment.specs.Far.{ContainsTwiceOnGates}
 use Rattle.containment.proofs.AllCycles.{corrected, Blame, AreCodewords, starts, each_cycle, at_start, carry}
-use Rattle.netlist_spec.specs.Regions.{Guarded}
-use Rattle.netlist_spec.specs.Rails.{SomeStateWord, SomeOutputWord, SomeFarWord, FarRailsTell}
+use Rattle.guard_spec.specs.Regions.{Guarded}
+use Rattle.guard_spec.specs.Rails.{SomeStateWord, SomeOutputWord, SomeFarWord, FarRailsTell}
 
 module _ (code : Code) (is_code : IsCode code) (d : ℕ) (is_distance : IsDistance code d) (t n : ℕ) (wide : n + t < d) where
   -- a word that is near the right one is within t of it, or far from every codeword

@@ -2,11 +2,11 @@
 use Rattle.std.proofs.Common.{◌≡◌, refl, subst, ℕ, ◌+◌, ◌*◌, ◌<◌, ◌≤◌, List, length, arith}
 use Rattle.netlist_spec.specs.Netlist.{Model, File}
 use Rattle.netlist_spec.specs.Gates.{Machine}
-use Rattle.netlist_spec.specs.Codes.{Mode, detect, correct, needed_distance, rail_count}
-use Rattle.netlist_spec.specs.Words.{Settings, Layout}
+use Rattle.guard_spec.specs.Codes.{Mode, detect, correct, needed_distance, rail_count}
+use Rattle.guard_spec.specs.Words.{Settings, Layout}
 use Rattle.netlist_spec.specs.Runs.{Fault, IsSteady, IsMoving}
-use Rattle.netlist_spec.specs.Contained.{Corrects}
-use Rattle.netlist_spec.specs.Containment.{ContainsFaults, IsGuardFor}
+use Rattle.guard_spec.specs.Contained.{Corrects}
+use Rattle.guard_spec.specs.Containment.{ContainsFaults, IsGuardFor}
 use Rattle.containment.specs.Nets.{AreSteady, AreMoving}
 use Rattle.containment.specs.Built.{IsCoded, IsBuilt}
 use Rattle.containment.specs.Written.{StandsForGates, IsBuiltText, IsBuiltDualText}
@@ -15,9 +15,9 @@ use Rattle.containment.proofs.Dual.{codewords_are_not_far, contains_both}
 use Rattle.containment.proofs.Layouts.{coded_by_layout}
 use Rattle.containment.proofs.Blamed.{steady_blame, moving_blame}
 use Rattle.containment.proofs.Text.{faithful_text, twice_text, detecting_text, correcting_text, steady_nets, moving_nets}
-use Rattle.netlist_spec.specs.Regions.{Guarded}
-use Rattle.netlist_spec.specs.Rails.{IsFarWord, RailsTell, SomeNoCodeword, SomeFarWord, RailsTellIn}
-use Rattle.netlist_spec.specs.Dual.{IsDualGuard}
+use Rattle.guard_spec.specs.Regions.{Guarded}
+use Rattle.guard_spec.specs.Rails.{IsFarWord, RailsTell, SomeNoCodeword, SomeFarWord, RailsTellIn}
+use Rattle.guard_spec.specs.Dual.{IsDualGuard}
 
 -- A set of at most t fixed cells does no harm in either mode.
 pub contains_steady : (mode : Mode) (t : ℕ) (file source : File) (s : Settings) (m : Model) (machine : Machine) (g : Guarded) (d : ℕ) (l : Layout) → t ≡ s.bound

@@ -6,8 +6,9 @@ use Rattle.netlist_spec.specs.Netlist.{Name, Statement, Model}
 use Rattle.netlist_spec.specs.Models.{main_model, Latch}
 use Rattle.netlist_spec.specs.Gates.{Machine, IsMachine}
 use Rattle.netlist_spec.specs.CellBits.{IsIndependent}
-use Rattle.netlist_spec.specs.Shaped.{NeverBack, gate_cells}
-use Rattle.netlist_spec.specs.Regions.{Region, CoversGates, HaveOwnNets, AreSeparate}
+use Rattle.guard_spec.specs.Shaped.{NeverBack, gate_cells}
+use Rattle.guard_spec.specs.Regions.{CoversGates, HaveOwnNets, AreSeparate}
+use Rattle.netlist_spec.specs.GateRanges.{Region}
 use Rattle.netlist_spec.specs.Written.{Named, label_name, latch_statement, latch_statements, gate_statement, gate_statements, line_count, statements_from, file_of}
 use Rattle.containment.specs.Written.{machine_of, IsWellNamed, NamesRails}
 use Rattle.containment.proofs.WrittenRuns.{facts, names_long, apart, gates_are, latches_are, latch_labels_are, gate_labels_are, shows_back, stores_back}

@@ -7,8 +7,8 @@ use Rattle.netlist_spec.specs.Netlist.{Name, Model, File}
 use Rattle.netlist_spec.specs.Covers.{Library}
 use Rattle.netlist_spec.specs.Models.{latches_of, latch_outputs, output_nets, init_bit}
 use Rattle.netlist_spec.specs.Gates.{Machine}
-use Rattle.netlist_spec.specs.Codes.{data_places, IsCode, IsDistance}
-use Rattle.netlist_spec.specs.Words.{Settings, Words, Layout, IsPartition, AreTakenBy, AreWords, IsLayout}
+use Rattle.guard_spec.specs.Codes.{data_places, IsCode, IsDistance}
+use Rattle.guard_spec.specs.Words.{Settings, Words, Layout, IsPartition, AreTakenBy, AreWords, IsLayout}
 use Rattle.netlist_spec.specs.Elaborated.{IsMachineOf}
 use Rattle.containment.specs.Built.{IsCoded}
 use Rattle.containment.proofs.Counting.{number, number_counts, number_above, All_below}

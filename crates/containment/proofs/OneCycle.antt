@@ -4,11 +4,11 @@ use Rattle.std.proofs.lemmas.List.{length-map}
 use Rattle.std.specs.List.{AllByRecursion, AllZip}
 use Rattle.netlist_spec.specs.SourceRun.{Bits}
 use Rattle.netlist_spec.specs.Gates.{ForcedNets, shown_net}
-use Rattle.netlist_spec.specs.Codes.{Code, data_places, IsCode, encoded, apart, IsDistance, IsCodeword}
-use Rattle.netlist_spec.specs.Words.{Words, bits_at, codewords, output_word}
-use Rattle.netlist_spec.specs.Count.{StateWordsAre}
+use Rattle.guard_spec.specs.Codes.{Code, data_places, IsCode, encoded, apart, IsDistance, IsCodeword}
+use Rattle.guard_spec.specs.Words.{Words, bits_at, codewords, output_word}
+use Rattle.guard_spec.specs.Count.{StateWordsAre}
 use Rattle.block_code.proofs.Coding.{apart_zero, apart_append, same_or_not, length_encoded, no_codeword_near}
-use Rattle.netlist_spec.specs.Rails.{SomeStateWord, SomeOutputWord, IsNoCodeword}
+use Rattle.guard_spec.specs.Rails.{SomeStateWord, SomeOutputWord, IsNoCodeword}
 
 -- Lists in step.
 

@@ -5,10 +5,10 @@ use Rattle.std.specs.Bool.{beq}
 use Rattle.std.specs.List.{AllByRecursion, list_all, list_any, enumerate_from, range_with_len}
 use Rattle.std.specs.Cmp.Lexicographic.{pointwise}
 use Rattle.netlist_spec.specs.SourceRun.{Bits}
-use Rattle.netlist_spec.specs.Codes.{Code, encoded, apart, Decodes, detect, correct}
-use Rattle.netlist_spec.specs.Words.{output_word, Words, Layout, IsPartition, bits_at, all_numbers}
-use Rattle.netlist_spec.specs.Contained.{at_cycle, is_alarmed, IsWholeAt, DecodesAt, IsUpBy, IsDetected}
-use Rattle.netlist_spec.specs.Tally.{right, alarmed, decoded, wrong, is_right_at, is_right, is_alarmed_in_time, is_near, outcome_of}
+use Rattle.guard_spec.specs.Codes.{Code, encoded, apart, Decodes, detect, correct}
+use Rattle.guard_spec.specs.Words.{output_word, Words, Layout, IsPartition, bits_at, all_numbers}
+use Rattle.guard_spec.specs.Contained.{at_cycle, is_alarmed, IsWholeAt, DecodesAt, IsUpBy, IsDetected}
+use Rattle.guard_spec.specs.Tally.{right, alarmed, decoded, wrong, is_right_at, is_right, is_alarmed_in_time, is_near, outcome_of}
 use Rattle.containment.specs.Outcomes.{HaveOutputs}
 use Rattle.containment.proofs.Counting.{number, number_counts}
 

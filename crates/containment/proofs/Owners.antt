@@ -7,7 +7,8 @@ use Rattle.std.specs.List.{AllByRecursion, list_any}
 use Rattle.netlist_spec.specs.Gates.{Machine, IsMachine, ForcedNets, latch_nets}
 use Rattle.netlist_spec.specs.CellBits.{Bit, latch_bit, output_bit}
 use Rattle.containment.proofs.Counting.{number, AreDistinct, not_any_at}
-use Rattle.netlist_spec.specs.Regions.{Region, Guarded, IsRegion, CoversGates, IsCellOf, IsUntouched}
+use Rattle.guard_spec.specs.Regions.{Guarded, IsRegion, CoversGates, IsCellOf, IsUntouched}
+use Rattle.netlist_spec.specs.GateRanges.{Region}
 
 abbrev holds : Region → ℕ → Bool
 holds r n = nat_le r.first n && nat_lt n r.end

@@ -6,14 +6,15 @@ use Rattle.std.proofs.lemmas.List.FromFn.{get_or-map-range_with_len}
 use Rattle.std.specs.List.{AllByRecursion, enumerate_from, flat_map, range_with_len}
 use Rattle.netlist_spec.specs.SourceRun.{Bits}
 use Rattle.netlist_spec.specs.Gates.{GateForm, gate_answer, Machine, ForcedNets, shown_net, GateValues, GateStep, AnswersWithin, latch_nets}
-use Rattle.netlist_spec.specs.Codes.{Code, Mode, checks_of}
-use Rattle.netlist_spec.specs.Words.{Layout, bits_at}
+use Rattle.guard_spec.specs.Codes.{Code, Mode, checks_of}
+use Rattle.guard_spec.specs.Words.{Layout, bits_at}
 use Rattle.netlist_spec.specs.CellBits.{Bit, latch_bit, output_bit}
-use Rattle.netlist_spec.specs.Count.{Counts, StateWordsAre, IsNear, right_outputs}
+use Rattle.guard_spec.specs.Count.{Counts, StateWordsAre, IsNear, right_outputs}
 use Rattle.containment.specs.RegionAnswers.{RegionsAnswer, RailsAnswerOf}
 use Rattle.containment.proofs.OneCycle.{shows_own}
-use Rattle.netlist_spec.specs.Regions.{Guarded, Region, IsUntouched, HaveOwnNets}
-use Rattle.netlist_spec.specs.Rails.{RailsTellOf}
+use Rattle.guard_spec.specs.Regions.{Guarded, IsUntouched, HaveOwnNets}
+use Rattle.netlist_spec.specs.GateRanges.{Region}
+use Rattle.guard_spec.specs.Rails.{RailsTellOf}
 
 module _ (g : Guarded) (stored x : Bits) (faults : ForcedNets) (v : ℕ → Bool) (values : GateValues g.machine stored x faults v) where
   -- In an untouched region each gate has its answer.

@@ -11,11 +11,12 @@ use Rattle.netlist_spec.specs.SourceRun.{Bits}
 use Rattle.netlist_spec.specs.Values.{Forced, Values}
 use Rattle.netlist_spec.specs.Runs.{Fault}
 use Rattle.netlist_spec.specs.Gates.{GateForm, constant, Machine, IsMachine, latch_nets}
-use Rattle.netlist_spec.specs.Codes.{Code}
-use Rattle.netlist_spec.specs.Words.{Layout}
+use Rattle.guard_spec.specs.Codes.{Code}
+use Rattle.guard_spec.specs.Words.{Layout}
 use Rattle.netlist_spec.specs.CellBits.{Bit, output_bit, IsBitOf, cells_of}
-use Rattle.netlist_spec.specs.Regions.{Region, Guarded, CoversGates, HaveOwnNets, AreSeparate, IsCellOf, IsUntouched}
-use Rattle.netlist_spec.specs.Rails.{SomeWord, RailsTellOf, IsUntouchedIn, RailsTellIn}
+use Rattle.guard_spec.specs.Regions.{Guarded, CoversGates, HaveOwnNets, AreSeparate, IsCellOf, IsUntouched}
+use Rattle.netlist_spec.specs.GateRanges.{Region}
+use Rattle.guard_spec.specs.Rails.{SomeWord, RailsTellOf, IsUntouchedIn, RailsTellIn}
 use Rattle.netlist_spec.specs.Written.{Named, label_name, net_name, latch_statement, gate_statement, file_of}
 use Rattle.containment.specs.Written.{machine_of, net_of, place_in, IsWellNamed, IsNamedGuard}
 use Rattle.containment.proofs.WrittenRuns.{AreApart, apart, names_long, facts, gate_values, place_tells, maps}

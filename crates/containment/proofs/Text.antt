@@ -12,16 +12,16 @@ use Rattle.netlist_spec.specs.SourceRun.{Bits, Stream, CycleStep, RunsFrom, Sour
 use Rattle.netlist_spec.specs.Runs.{Fault, faults_at, IsWithin, IsSteady, IsMoving}
 use Rattle.netlist_spec.specs.Gates.{Machine, ForcedNets, NetFault, forced_nets_at, GateStep, GateRun}
 use Rattle.netlist_spec.specs.Elaborated.{IsMachineOf}
-use Rattle.netlist_spec.specs.Codes.{Code}
-use Rattle.netlist_spec.specs.Words.{Layout}
-use Rattle.netlist_spec.specs.Contained.{at_cycle, DecodesAt, IsQuiet, IsDetected, IsCorrected, IsFaithful, Detects, Corrects}
-use Rattle.netlist_spec.specs.Dual.{DecodesOrTells, ContainsTwice}
+use Rattle.guard_spec.specs.Codes.{Code}
+use Rattle.guard_spec.specs.Words.{Layout}
+use Rattle.guard_spec.specs.Contained.{at_cycle, DecodesAt, IsQuiet, IsDetected, IsCorrected, IsFaithful, Detects, Corrects}
+use Rattle.guard_spec.specs.Dual.{DecodesOrTells, ContainsTwice}
 use Rattle.containment.specs.Nets.{AreWithin, AreSteady, AreMoving, IsFaultless}
 use Rattle.containment.specs.OnGates.{IsFaithfulOnGates, DetectsOnGates, CorrectsOnGates}
 use Rattle.containment.specs.Written.{net_faults, IsWritten, StandsForGates}
 use Rattle.containment.specs.Far.{ContainsTwiceOnGates}
 use Rattle.containment.proofs.Cycle.{each_passes}
-use Rattle.netlist_spec.specs.Regions.{Guarded}
+use Rattle.guard_spec.specs.Regions.{Guarded}
 
 -- Fault lists.
 

@@ -11,8 +11,9 @@ use Rattle.netlist_spec.specs.Models.{Gate, gates_of, latch_outputs, latch_input
 use Rattle.netlist_spec.specs.Ordered.{driven_by, cell_nets}
 use Rattle.netlist_spec.specs.Gates.{GateForm, constant, one, two, ReadsBelow, gate_reads, LatchRow, Machine, IsMachine, ReadsNet}
 use Rattle.netlist_spec.specs.CellBits.{Bit, latch_bit, output_bit, stands_before, Reaches, own, on, IsGateBit, IsLatchBit, IsBitOf, IsRail, is_driven_output, IsIndependentCell, cells_of}
-use Rattle.netlist_spec.specs.Shaped.{NeverBack, is_gate, gate_cells}
-use Rattle.netlist_spec.specs.Regions.{Region, Guarded, IsBitNet, IsRegion, CoversGates, HaveOwnNets, LiesIn, IsRailBit, MayRead, LeadsToEnd, is_end, is_read, AreSeparate}
+use Rattle.guard_spec.specs.Shaped.{NeverBack, is_gate, gate_cells}
+use Rattle.guard_spec.specs.Regions.{Guarded, IsBitNet, IsRegion, CoversGates, HaveOwnNets, IsRailBit, MayRead, AreSeparate}
+use Rattle.netlist_spec.specs.GateRanges.{Region, LiesIn, LeadsToEnd, is_end, is_read}
 use Rattle.netlist_spec.specs.Written.{Named, net_name, latch_statement, gate_statement}
 use Rattle.netlist_spec.proofs.ListTests.{both, any_element, any_from}
 use Rattle.containment.specs.Written.{machine_of, NamesRails}

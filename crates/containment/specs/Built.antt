@@ -1,11 +1,11 @@
 -- What the builder of a guard promises of its gate list.
 use Rattle.std.specs.Prelude.{◌≡◌, ℕ, ◌+◌, ◌*◌, length, map}
 use Rattle.netlist_spec.specs.Gates.{Machine, IsMachine}
-use Rattle.netlist_spec.specs.Codes.{Code, data_places, Mode, IsCode, IsDistance}
-use Rattle.netlist_spec.specs.Words.{Layout, IsPartition, codewords}
-use Rattle.netlist_spec.specs.Regions.{Guarded, CoversGates}
-use Rattle.netlist_spec.specs.Count.{Counts}
-use Rattle.netlist_spec.specs.Rails.{RailsTell, FarRailsTell}
+use Rattle.guard_spec.specs.Codes.{Code, data_places, Mode, IsCode, IsDistance}
+use Rattle.guard_spec.specs.Words.{Layout, IsPartition, codewords}
+use Rattle.guard_spec.specs.Regions.{Guarded, CoversGates}
+use Rattle.guard_spec.specs.Count.{Counts}
+use Rattle.guard_spec.specs.Rails.{RailsTell, FarRailsTell}
 
 -- A code of distance d, and words over the latches and the outputs of a source.
 pub record IsCoded (source : Machine) (code : Code) (d : ℕ) (l : Layout) : Type 0 where

@@ -3,10 +3,10 @@ use Rattle.std.specs.Prelude.{ℕ, ◌≤◌, Bool, List, [], map, Contains}
 use Rattle.std.specs.List.{AllByRecursion, enumerate_from}
 use Rattle.netlist_spec.specs.SourceRun.{Bits}
 use Rattle.netlist_spec.specs.Gates.{Machine, ForcedNets, GateValues, GateStep, latch_nets}
-use Rattle.netlist_spec.specs.Codes.{Code, encoded, apart, correct}
-use Rattle.netlist_spec.specs.Words.{Layout, bits_at, codewords, output_word}
-use Rattle.netlist_spec.specs.Regions.{Guarded}
-use Rattle.netlist_spec.specs.Count.{StateWordsAre, IsNear}
+use Rattle.guard_spec.specs.Codes.{Code, encoded, apart, correct}
+use Rattle.guard_spec.specs.Words.{Layout, bits_at, codewords, output_word}
+use Rattle.guard_spec.specs.Regions.{Guarded}
+use Rattle.guard_spec.specs.Count.{StateWordsAre, IsNear}
 
 -- the bits that the latches show, and those that they store at the cycle's end
 abbrev pub shown_state : Guarded → (ℕ → Bool) → Bits

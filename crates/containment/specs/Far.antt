@@ -1,13 +1,13 @@
 -- Guards that correct few faults and report more, on gate lists.
 use Rattle.std.specs.Prelude.{ℕ, ◌<◌, length}
 use Rattle.netlist_spec.specs.Gates.{Machine}
-use Rattle.netlist_spec.specs.Codes.{Code}
-use Rattle.netlist_spec.specs.Words.{Layout}
-use Rattle.netlist_spec.specs.Contained.{at_cycle, DecodesAt}
-use Rattle.netlist_spec.specs.Dual.{DecodesOrTells}
+use Rattle.guard_spec.specs.Codes.{Code}
+use Rattle.guard_spec.specs.Words.{Layout}
+use Rattle.guard_spec.specs.Contained.{at_cycle, DecodesAt}
+use Rattle.guard_spec.specs.Dual.{DecodesOrTells}
 use Rattle.containment.specs.Nets.{AreSteady}
 use Rattle.containment.specs.OnGates.{UnderNetFaults}
-use Rattle.netlist_spec.specs.Regions.{Guarded}
+use Rattle.guard_spec.specs.Regions.{Guarded}
 
 -- Under at most t fixed cells each output word decodes in every cycle; under at most s it does so in all cycles up to
 -- each one, or a rail is up by then.

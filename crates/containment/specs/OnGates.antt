@@ -2,11 +2,11 @@
 use Rattle.std.specs.Prelude.{ℕ, List, [], length}
 use Rattle.netlist_spec.specs.SourceRun.{Bits, Stream}
 use Rattle.netlist_spec.specs.Gates.{Machine, NetFault, GateRun}
-use Rattle.netlist_spec.specs.Codes.{Code}
-use Rattle.netlist_spec.specs.Words.{Layout}
-use Rattle.netlist_spec.specs.Contained.{IsQuiet, IsDetected, IsCorrected}
+use Rattle.guard_spec.specs.Codes.{Code}
+use Rattle.guard_spec.specs.Words.{Layout}
+use Rattle.guard_spec.specs.Contained.{IsQuiet, IsDetected, IsCorrected}
 use Rattle.containment.specs.Nets.{IsFaultless}
-use Rattle.netlist_spec.specs.Regions.{Guarded}
+use Rattle.guard_spec.specs.Regions.{Guarded}
 
 -- On every stream the run of the guard without faults gives the source's outputs and no alarm.
 abbrev pub IsFaithfulOnGates : Guarded → Machine → Code → Layout → Type 0

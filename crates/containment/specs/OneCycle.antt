@@ -2,12 +2,12 @@
 use Rattle.std.specs.Prelude.{ℕ, ◌<◌, ◌⊎◌, Bool, List, length, map, IsTrue}
 use Rattle.netlist_spec.specs.SourceRun.{Bits}
 use Rattle.netlist_spec.specs.Gates.{Machine, ForcedNets}
-use Rattle.netlist_spec.specs.Codes.{Code, data_places, detect, correct}
-use Rattle.netlist_spec.specs.Words.{Words, Layout, IsPartition}
-use Rattle.netlist_spec.specs.Contained.{IsWholeAt, is_alarmed}
-use Rattle.netlist_spec.specs.Count.{StateWordsAre, IsNear}
-use Rattle.netlist_spec.specs.Rails.{SomeStateWord, SomeWord, IsNoCodeword, SomeNoCodeword}
-use Rattle.netlist_spec.specs.Regions.{Guarded}
+use Rattle.guard_spec.specs.Codes.{Code, data_places, detect, correct}
+use Rattle.guard_spec.specs.Words.{Words, Layout, IsPartition}
+use Rattle.guard_spec.specs.Contained.{IsWholeAt, is_alarmed}
+use Rattle.guard_spec.specs.Count.{StateWordsAre, IsNear}
+use Rattle.guard_spec.specs.Rails.{SomeStateWord, SomeWord, IsNoCodeword, SomeNoCodeword}
+use Rattle.guard_spec.specs.Regions.{Guarded}
 use Rattle.containment.specs.Built.{IsCoded}
 use Rattle.containment.specs.Cycles.{IsCycle, IsWrongInFew, OutputsAreNear, shown_state}
 

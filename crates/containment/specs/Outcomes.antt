@@ -3,10 +3,10 @@ use Rattle.std.specs.Prelude.{◌≡◌, ℕ, ◌<◌, ◌≤◌, ◌⊎◌, Lis
 use Rattle.netlist_spec.specs.Netlist.{File}
 use Rattle.netlist_spec.specs.SourceRun.{Bits, Stream}
 use Rattle.netlist_spec.specs.Gates.{Machine}
-use Rattle.netlist_spec.specs.Codes.{Code, Mode, detect, correct}
-use Rattle.netlist_spec.specs.Words.{Settings, Layout}
-use Rattle.netlist_spec.specs.Contained.{at_cycle, DecodesAt}
-use Rattle.netlist_spec.specs.Tally.{Tally, Outcome, right, alarmed, decoded, IsTally, IsMachineTally}
+use Rattle.guard_spec.specs.Codes.{Code, Mode, detect, correct}
+use Rattle.guard_spec.specs.Words.{Settings, Layout}
+use Rattle.guard_spec.specs.Contained.{at_cycle, DecodesAt}
+use Rattle.guard_spec.specs.Tally.{Tally, Outcome, right, alarmed, decoded, IsTally, IsMachineTally}
 
 -- There are as many cycles, and each has the source's p outputs and no fewer of the guard's.
 abbrev pub HaveOutputs : ℕ → List Bits → List Bits → Type 0

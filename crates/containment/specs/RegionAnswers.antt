@@ -3,12 +3,13 @@ use Rattle.std.specs.Prelude.{◌≡◌, ℕ, ◌+◌, ◌<◌, ◌≤◌, ◌�
 use Rattle.std.specs.List.{range_with_len}
 use Rattle.netlist_spec.specs.SourceRun.{Bits}
 use Rattle.netlist_spec.specs.Gates.{Machine, ForcedNets, GateStep, AnswersWithin, latch_nets}
-use Rattle.netlist_spec.specs.Codes.{Code, Mode}
-use Rattle.netlist_spec.specs.Words.{Layout, codewords}
+use Rattle.guard_spec.specs.Codes.{Code, Mode}
+use Rattle.guard_spec.specs.Words.{Layout, codewords}
 use Rattle.netlist_spec.specs.CellBits.{latch_bit, output_bit}
-use Rattle.netlist_spec.specs.Regions.{Guarded, Region, IsBitNet, IsUntouched}
-use Rattle.netlist_spec.specs.Count.{right_outputs, StateWordsAre, IsNear, Counts}
-use Rattle.netlist_spec.specs.Rails.{SomeNoCodeword, SomeFarWord, RailsTell, FarRailsTell}
+use Rattle.guard_spec.specs.Regions.{Guarded, IsBitNet, IsUntouched}
+use Rattle.netlist_spec.specs.GateRanges.{Region}
+use Rattle.guard_spec.specs.Count.{right_outputs, StateWordsAre, IsNear, Counts}
+use Rattle.guard_spec.specs.Rails.{SomeNoCodeword, SomeFarWord, RailsTell, FarRailsTell}
 
 -- The regions of latches and of outputs, rails left out: where the shown state words are near those of the state from
 -- which the source steps, the bit's own net has the right value, whatever the other regions do.

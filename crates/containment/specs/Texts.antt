@@ -3,12 +3,12 @@ use Rattle.std.specs.Prelude.{ℕ}
 use Rattle.netlist_spec.specs.Netlist.{Model, File}
 use Rattle.netlist_spec.specs.Covers.{Library}
 use Rattle.netlist_spec.specs.Gates.{Machine}
-use Rattle.netlist_spec.specs.Codes.{Code}
-use Rattle.netlist_spec.specs.Words.{Layout}
+use Rattle.guard_spec.specs.Codes.{Code}
+use Rattle.guard_spec.specs.Words.{Layout}
 use Rattle.netlist_spec.specs.Runs.{IsWithin, IsSteady, IsMoving}
-use Rattle.netlist_spec.specs.Contained.{IsFaithful, Detects, Corrects}
-use Rattle.netlist_spec.specs.Dual.{ContainsTwice}
-use Rattle.netlist_spec.specs.Regions.{Guarded}
+use Rattle.guard_spec.specs.Contained.{IsFaithful, Detects, Corrects}
+use Rattle.guard_spec.specs.Dual.{ContainsTwice}
+use Rattle.guard_spec.specs.Regions.{Guarded}
 use Rattle.containment.specs.Nets.{AreWithin, AreSteady, AreMoving}
 use Rattle.containment.specs.OnGates.{IsFaithfulOnGates, DetectsOnGates, CorrectsOnGates}
 use Rattle.containment.specs.Far.{ContainsTwiceOnGates}

@@ -6,15 +6,15 @@ use Rattle.netlist_spec.specs.Models.{main_model, data_inputs}
 use Rattle.netlist_spec.specs.SourceRun.{Bits, Stream}
 use Rattle.netlist_spec.specs.Runs.{Fault, Run}
 use Rattle.netlist_spec.specs.Gates.{Machine, IsMachine, NetFault, GateRun}
-use Rattle.netlist_spec.specs.Codes.{Code, IsCode, IsDistance, correct, needed_distance, rail_count}
-use Rattle.netlist_spec.specs.Words.{Settings, Layout}
+use Rattle.guard_spec.specs.Codes.{Code, IsCode, IsDistance, correct, needed_distance, rail_count}
+use Rattle.guard_spec.specs.Words.{Settings, Layout}
 use Rattle.netlist_spec.specs.Ordered.{IsOrdered}
 use Rattle.netlist_spec.specs.CellBits.{IsIndependent, is_rail_name}
-use Rattle.netlist_spec.specs.Shaped.{IsShapedWithin, NeverBack, gate_cells}
+use Rattle.guard_spec.specs.Shaped.{IsShapedWithin, NeverBack, gate_cells}
 use Rattle.netlist_spec.specs.Elaborated.{IsMachineOf}
-use Rattle.netlist_spec.specs.Regions.{Guarded, CoversGates, HaveOwnNets, AreSeparate}
-use Rattle.netlist_spec.specs.Rails.{IsFarWord, IsNoCodeword, RailsTell, FarRailsTell, RailsTellIn}
-use Rattle.netlist_spec.specs.Dual.{dual_distance, IsDualShaped}
+use Rattle.guard_spec.specs.Regions.{Guarded, CoversGates, HaveOwnNets, AreSeparate}
+use Rattle.guard_spec.specs.Rails.{IsFarWord, IsNoCodeword, RailsTell, FarRailsTell, RailsTellIn}
+use Rattle.guard_spec.specs.Dual.{dual_distance, IsDualShaped}
 use Rattle.netlist_spec.specs.Written.{Named, label_name, net_name, file_of}
 use Rattle.containment.specs.Built.{IsBuilt}
 

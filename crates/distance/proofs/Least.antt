@@ -6,7 +6,7 @@ use Rattle.std.proofs.lemmas.Nat.{zero_from_ones, one_shl, pow_below}
 use Rattle.std.proofs.lemmas.Bool.{cases_lt}
 use Rattle.netlist_spec.specs.Covers.{number_of}
 use Rattle.netlist_spec.specs.SourceRun.{Bits}
-use Rattle.netlist_spec.specs.Codes.{Code, data_places, encoded, weight, IsDistance, IsLeastData, bits_of}
+use Rattle.guard_spec.specs.Codes.{Code, data_places, encoded, weight, IsDistance, IsLeastData, bits_of}
 use Rattle.block_code.proofs.Words.{length_bits, number_bits, bits_number, number_below, weight_bits, ones_zero}
 
 -- the weight of the codeword of a number

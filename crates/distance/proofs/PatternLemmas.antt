@@ -11,7 +11,7 @@ use Rattle.std.proofs.lemmas.Map.Steps.{length-le_from_distinct_below}
 use Rattle.std.proofs.lemmas.List.Elements.{All-from_recursion}
 use Rattle.std.proofs.lemmas.List.Folds.{Any-from_list_any}
 use Rattle.netlist_spec.specs.Covers.{number_of}
-use Rattle.netlist_spec.specs.Codes.{Code, data_places, IsCode, IsDistance, weight, syndrome_of, bits_of, Pattern, StandsBefore, IsPattern, ArePatterns}
+use Rattle.guard_spec.specs.Codes.{Code, data_places, IsCode, IsDistance, weight, syndrome_of, bits_of, Pattern, StandsBefore, IsPattern, ArePatterns}
 use Rattle.netlist_spec.specs.SourceRun.{Bits}
 use Rattle.block_code.specs.declared.word.Word.{Word}
 use Rattle.block_code.proofs.Words.{length_bits, number_bits, bits_number, number_below, same_number, weight_bits, ones_zero}

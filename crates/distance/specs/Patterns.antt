@@ -1,7 +1,7 @@
 -- Error patterns as numbers.
 use Rattle.std.specs.Prelude.{ℕ, ◌+◌}
 use Rattle.netlist_spec.specs.Covers.{number_of}
-use Rattle.netlist_spec.specs.Codes.{Code, Pattern, syndrome_of, bits_of}
+use Rattle.guard_spec.specs.Codes.{Code, Pattern, syndrome_of, bits_of}
 use Rattle.distance.specs.declared.error_patterns.Pattern.{Pattern as Found}
 
 -- the pattern that numbers stand for, over so many places and columns

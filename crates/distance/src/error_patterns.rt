@@ -1,6 +1,6 @@
 // The error patterns of few places, with their syndromes.
 ghost use Rattle.std.specs.Prelude.{◌≡◌, ℕ, ◌+◌, ◌*◌, ◌^◌, ◌<◌, ◌≤◌, ◌++◌, [], ◌∷◌, map, take_while, nat_lt, vec_len, All, OnOk, IfOk};
-ghost use Rattle.netlist_spec.specs.Codes.{data_places, IsDistance, ArePatterns};
+ghost use Rattle.guard_spec.specs.Codes.{data_places, IsDistance, ArePatterns};
 ghost use Rattle.distance.specs.Levels.{IsLevel};
 ghost use Rattle.distance.specs.Patterns.{pattern_of, pattern_at};
 

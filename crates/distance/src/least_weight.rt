@@ -1,6 +1,6 @@
 // The distance of a code, by going through its codewords.
 ghost use Rattle.std.specs.Prelude.{◌≡◌, ℕ, ◌^◌, ◌<◌, ◌≤◌};
-ghost use Rattle.netlist_spec.specs.Codes.{data_places, IsCode, encoded, weight, IsDistance, IsLeastData, bits_of};
+ghost use Rattle.guard_spec.specs.Codes.{data_places, IsCode, encoded, weight, IsDistance, IsLeastData, bits_of};
 
 use block_code::{Code, Word, weight};
 

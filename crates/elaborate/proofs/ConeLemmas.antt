@@ -9,7 +9,7 @@ use Rattle.netlist_spec.specs.Models.{Latch, Gate, as_gate, gates_of, latches_of
 use Rattle.netlist_spec.specs.Gates.{GateForm, gate_reads, LatchRow, Machine, ReadsNet}
 use Rattle.netlist_spec.specs.Size.{cost_of}
 use Rattle.netlist_spec.specs.Sound.{ReadsFor}
-use Rattle.netlist_spec.specs.Plain.{marked_sum, AreMarked, IsReached, itself, behind, IsInCone, IsGateReached, same_net, read_by}
+use Rattle.netlist_spec.specs.Cones.{marked_sum, AreMarked, IsReached, itself, behind, IsInCone, IsGateReached, same_net, read_by}
 use Rattle.netlist_spec.specs.Elaborated.{CostsNoMore}
 use Rattle.imp_text.proofs.NamesLemmas.{same_name_self}
 use Rattle.elaborate.specs.Ready.{IsNetOf, IsGateFor, IsReadyModel, IsReadyMachine, net_names, gate_outputs}

@@ -2,13 +2,13 @@
 use Rattle.std.proofs.Common.{◌≡◌, ◌<◌, ◌≤◌, List, ℕ, Ok, Err, Some, None, refl, lit<}
 use Rattle.std.specs.Prelude.{IsSome, MatchResult, Result, length}
 use Rattle.imp_io.specs.Files.{FilesSeen, bytes_at}
-use Rattle.netlist_spec.specs.Codes.{bits_of, data_places}
+use Rattle.guard_spec.specs.Codes.{bits_of, data_places}
 use Rattle.program_spec.specs.Commands.{code, other_limit}
 use Rattle.program_spec.specs.Printed.{IsReport}
 use Rattle.program_spec.specs.Refusals.{bad_settings}
-use Rattle.netlist_spec.specs.SettingsFile.{SettingsFault, settings_without_library_of}
+use Rattle.guard_spec.specs.SettingsFile.{SettingsFault, settings_without_library_of}
 use Rattle.program_spec.specs.Verdict.{Contents, ComesToLoad, IsReportText, IsVerdict, Verdict, passes, refused}
-use Rattle.netlist_spec.specs.Words.{Settings}
+use Rattle.guard_spec.specs.Words.{Settings}
 use Rattle.settings.specs.declared.fault.SetFault.{SetFault}
 use Rattle.settings.specs.declared.fault.SetFault.TheVariants.{NotToml, Missing, BadValue, UnknownKey, BadShape, NoMemory as NoRoom}
 use Rattle.settings.specs.Faults.{fault_of, IsFault}

@@ -6,7 +6,7 @@ use Rattle.netlist_spec.specs.Covers.{has_bit}
 use Rattle.netlist_spec.specs.Statements.{bit_char}
 use Rattle.std.specs.Prelude.{decimal}
 use Rattle.impeccable.specs.declared.code.Report.{Report}
-use Rattle.netlist_spec.specs.Codes.{Code, bits_of, data_places}
+use Rattle.guard_spec.specs.Codes.{Code, bits_of, data_places}
 use Rattle.program_spec.specs.Printed.{bits_text, report_text}
 use Rattle.impeccable.specs.Code.{Measures, number_text, report_lines, size_text, word_line}
 

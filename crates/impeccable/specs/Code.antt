@@ -1,6 +1,6 @@
 -- What `code` writes.
 use Rattle.std.specs.Prelude.{◌≡◌, ℕ, ◌+◌, ◌-◌, ◌/◌, List, [], ◌∷◌, ◌++◌, codes, decimal}
-use Rattle.netlist_spec.specs.Codes.{Code, IsDistance, IsLeastData, bits_of, data_places}
+use Rattle.guard_spec.specs.Codes.{Code, IsDistance, IsLeastData, bits_of, data_places}
 use Rattle.program_spec.specs.Printed.{bits_text}
 use Rattle.impeccable.specs.declared.code.Report.{Report}
 

@@ -1,7 +1,7 @@
 -- The status that each outcome ends with, and refusals as plain data.
 use Rattle.std.specs.Prelude.{ℕ}
 use Rattle.netlist_spec.specs.ReadFaults.{unknown_statement, bad_row, mixed_cover, bad_latch, no_model, long_name, too_many, twice_model, bad_subckt, after_end, word_count}
-use Rattle.netlist_spec.specs.SettingsFile.{not_toml, missing, bad_value, unknown_key, bad_shape}
+use Rattle.guard_spec.specs.SettingsFile.{not_toml, missing, bad_value, unknown_key, bad_shape}
 use Rattle.program_spec.specs.Refusals.{Refusal, file_too_long, unreadable, bad_settings, not_yet}
 use Rattle.imp_text.specs.Quantities.{quantity_of}
 use Rattle.impeccable.specs.declared.outcome.Refusal.{Refusal as Told}

@@ -2,7 +2,7 @@
 ghost use Rattle.std.specs.Prelude.{◌≡◌, ◌<◌, ◌≤◌, IfOk};
 ghost use Rattle.imp_io.specs.Files.{IsLater};
 ghost use Rattle.imp_io.specs.Sink.{Puts};
-ghost use Rattle.netlist_spec.specs.Codes.{bits_of};
+ghost use Rattle.guard_spec.specs.Codes.{bits_of};
 ghost use Rattle.netlist_spec.specs.Covers.{has_bit};
 ghost use Rattle.netlist_spec.specs.Statements.{bit_char};
 ghost use Rattle.program_spec.specs.Commands.{code as code_command};

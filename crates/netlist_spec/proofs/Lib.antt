@@ -1,7 +1,6 @@
 pub mod LaneRun
 pub mod ListTests
 pub mod MachineRun
-pub mod GuardRun
 pub mod SomeRun
 pub mod SomeValue
 pub mod SoundHasNoFault

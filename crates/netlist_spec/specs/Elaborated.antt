@@ -10,7 +10,7 @@ use Rattle.netlist_spec.specs.Models.{latches_of, first_clocking, unknown_inits,
 use Rattle.netlist_spec.specs.SourceRun.{Bits, SourceCycle}
 use Rattle.netlist_spec.specs.Gates.{Machine, IsMachine, GateStep}
 use Rattle.netlist_spec.specs.Size.{whole_cost}
-use Rattle.netlist_spec.specs.Plain.{ConeCostOf, GateConeCost, RestsOnLatch, IsGateReached}
+use Rattle.netlist_spec.specs.Cones.{ConeCostOf, GateConeCost, RestsOnLatch, IsGateReached}
 
 -- The gates behind net n are no more than the cone of net x costs, and n rests on no latch that x doesn't rest on.
 pub record CostsNoMore (file : File) (library : Library) (m : Model) (machine : Machine) (x : Name) (n : ℕ) : Type 0 where

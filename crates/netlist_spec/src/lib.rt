@@ -1,4 +1,4 @@
-//! Definitions of netlists and of their guard.
+//! Definitions of texts, netlists, runs and gate lists.
 #![tactic(auto)]
 
 mod readings;
@@ -11,15 +11,12 @@ ghost use Rattle.netlist_spec.specs.Lanes.{AreLaneFaults, IsLaneOf, LaneCycle, L
 ghost use Rattle.netlist_spec.specs.ReadFaults.{read_fault};
 ghost use Rattle.netlist_spec.specs.Reads.{Reads};
 ghost use Rattle.netlist_spec.specs.FileRules.{IsFile};
-ghost use Rattle.netlist_spec.specs.Runs.{Fault, Run, IsMoving, IsSteady};
-ghost use Rattle.netlist_spec.specs.SourceRun.{Bits, Stream, SourceRun};
+ghost use Rattle.netlist_spec.specs.Runs.{Fault, Run};
+ghost use Rattle.netlist_spec.specs.SourceRun.{Bits, Stream};
 ghost use Rattle.netlist_spec.specs.Gates.{GateRun, IsMachine, Machine, NetFault};
-ghost use Rattle.netlist_spec.specs.Containment.{IsGuard, IsGuardFor, IsGuardWithin};
 ghost use Rattle.netlist_spec.specs.Covers.{Library};
 ghost use Rattle.netlist_spec.specs.SoundFaults.{IsRefusedWith, SoundFault};
 ghost use Rattle.netlist_spec.specs.Sound.{IsSound};
-ghost use Rattle.netlist_spec.specs.Words.{Settings};
-ghost use Rattle.netlist_spec.specs.Dual.{IsDualGuard};
 ghost use Rattle.netlist_spec.specs.Models.{data_inputs};
 ghost use Rattle.std.specs.List.{AllByRecursion};
 
@@ -64,28 +61,6 @@ pub fn machines_have_a_run()
     ensures { (m : Machine) → IsMachine m → (xs : Stream) (faults : List NetFault)
         → AllByRecursion (λ x. length x ≡ m.inputs) xs → (states outs : List Bits)
         × GateRun m xs faults states outs }
-{}
-
-/// A guard of a sound source has the data inputs of the source, so it has a run on each stream on which the source has one,
-/// whatever cells are faulty.
-pub fn guards_have_a_run()
-    ensures within { (g source : File) (s : Settings) → IsGuardWithin g source s
-        → IsSound source s.library → (xs : Stream) (faults : List Fault) (states outs : List Bits)
-        → SourceRun source s.library xs states outs → (stored zs : List Bits)
-        × Run g xs faults stored zs }
-    ensures steady { (g source : File) (s : Settings) → IsGuard g source s (IsSteady s.bound)
-        → IsSound source s.library → (xs : Stream) (faults : List Fault) (states outs : List Bits)
-        → SourceRun source s.library xs states outs → (stored zs : List Bits)
-        × Run g xs faults stored zs }
-    ensures moving { (g source : File) (s : Settings) (radius : ℕ)
-        → IsGuardFor g source s radius (IsMoving s.bound) → IsSound source s.library
-        → (xs : Stream) (faults : List Fault) (states outs : List Bits)
-        → SourceRun source s.library xs states outs → (stored zs : List Bits)
-        × Run g xs faults stored zs }
-    ensures dual { (g source : File) (settings : Settings) (s : ℕ) → IsDualGuard g source settings s
-        → IsSound source settings.library → (xs : Stream) (faults : List Fault) (states outs : List Bits)
-        → SourceRun source settings.library xs states outs → (stored zs : List Bits)
-        × Run g xs faults stored zs }
 {}
 
 /// Where the kernel's mean is the cover's value lane by lane, each lane of a cycle is a cycle of the file under the faults

@@ -11,7 +11,7 @@ use Rattle.std.specs.declared.alloc.AllocError.{AllocError}
 use Rattle.netlist_spec.specs.Gates.{GateList}
 use Rattle.netlist_spec.specs.Covers.{differ, has_bit, parity}
 use Rattle.netlist_spec.specs.SourceRun.{Bits}
-use Rattle.netlist_spec.specs.Codes.{Code, IsCode, zeros, sum_of, checks_by, bits_of}
+use Rattle.guard_spec.specs.Codes.{Code, IsCode, zeros, sum_of, checks_by, bits_of}
 use Rattle.gate_net.specs.declared.gate.NetId.{NetId}
 use Rattle.cone_split.specs.Ranges.{IsCopy}
 use Rattle.predictor.specs.Columns.{column_roots, IsCheckBit}

@@ -2,7 +2,7 @@
 use Rattle.std.specs.Prelude.{◌≡◌, ℕ, Bool, false, List, map, filter, Some, slice_get, slice_index_or}
 use Rattle.std.specs.List.{zip}
 use Rattle.netlist_spec.specs.Gates.{GateList, AnswersWithin, IsEvaluation}
-use Rattle.netlist_spec.specs.Codes.{Code, checks_of}
+use Rattle.guard_spec.specs.Codes.{Code, checks_of}
 use Rattle.gate_net.specs.GateNet.{net_count}
 
 -- the roots whose row has a 1 in column j; root i belongs to row i

@@ -1,7 +1,7 @@
 // A check bit as one range of gates.
 ghost use Rattle.std.specs.Prelude.{◌≡◌, ◌<◌, ◌≤◌, length, map, IfOk};
 ghost use Rattle.std.specs.List.{AllByRecursion};
-ghost use Rattle.netlist_spec.specs.Codes.{IsCode, data_places};
+ghost use Rattle.guard_spec.specs.Codes.{IsCode, data_places};
 ghost use Rattle.gate_net.specs.Gate.{net_number};
 ghost use Rattle.gate_net.specs.GateNet.{net_count};
 ghost use Rattle.cone_split.specs.Cones.{HasRoom};

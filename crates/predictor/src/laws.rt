@@ -1,9 +1,10 @@
 // A law of the sizes of check bits, as the contract of a function that needs no code.
 ghost use Rattle.std.specs.Prelude.{ℕ, ◌+◌, ◌≤◌, List, length, map};
 ghost use Rattle.std.specs.List.{AllZip};
-ghost use Rattle.netlist_spec.specs.Codes.{Code};
+ghost use Rattle.guard_spec.specs.Codes.{Code};
 ghost use Rattle.netlist_spec.specs.Gates.{Machine};
-ghost use Rattle.netlist_spec.specs.Plain.{GateConeCost, column_cost};
+ghost use Rattle.guard_spec.specs.Plain.{column_cost};
+ghost use Rattle.netlist_spec.specs.Cones.{GateConeCost};
 ghost use Rattle.cone_split.specs.Cones.{IsConeSize};
 ghost use Rattle.predictor.specs.Columns.{column_roots};
 

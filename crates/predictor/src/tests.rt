@@ -1,7 +1,7 @@
 // Check bits of four inverters, and of a counter.
 ghost use Rattle.std.specs.Prelude.{◌≡◌, ◌<◌, ◌≤◌, length, map, IfOk};
 ghost use Rattle.std.specs.List.{AllByRecursion};
-ghost use Rattle.netlist_spec.specs.Codes.{data_places};
+ghost use Rattle.guard_spec.specs.Codes.{data_places};
 ghost use Rattle.gate_net.specs.Gate.{net_number};
 ghost use Rattle.gate_net.specs.GateNet.{net_count};
 

@@ -3,8 +3,8 @@ use Rattle.std.proofs.Common.{◌≡◌, refl, ◌<◌, ◌≤◌, [], ◌∷◌
 use Rattle.std.specs.Str.{chars, is_utf8}
 use Rattle.toml.proofs.OnLiterals.{toml_on_literals}
 use Rattle.netlist_spec.specs.SourceRun.{Bits}
-use Rattle.netlist_spec.specs.Codes.{IsDistance, weight, encoded}
-use Rattle.netlist_spec.specs.SettingsFile.{settings_of_bytes}
+use Rattle.guard_spec.specs.Codes.{IsDistance, weight, encoded}
+use Rattle.guard_spec.specs.SettingsFile.{settings_of_bytes}
 use Rattle.program_spec.specs.Verdict.{IsAccepted}
 use Rattle.spec_examples.specs.Examples.{parity_code, parity_settings, inverter_file, inverter_model, inverter_layout}
 use Rattle.program_examples.specs.ProgramExamples.{parity_text, inverter_contents}

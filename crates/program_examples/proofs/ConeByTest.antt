@@ -5,7 +5,7 @@ use Rattle.std.specs.Cmp.Lexicographic.{bytes_decides}
 use Rattle.netlist_spec.specs.Netlist.{Name, same_name, stands_in, Statement, Model, File}
 use Rattle.netlist_spec.specs.Covers.{Library}
 use Rattle.netlist_spec.specs.Sound.{combines, drives, reads}
-use Rattle.netlist_spec.specs.Plain.{AreMarked, IsReached, itself, behind, IsInCone}
+use Rattle.netlist_spec.specs.Cones.{AreMarked, IsReached, itself, behind, IsInCone}
 use Rattle.netlist_spec.proofs.ListTests.{both, either, implies, any_element, any_from, all_at}
 
 module _ (file : File) (library : Library) (m : Model) where

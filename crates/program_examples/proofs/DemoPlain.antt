@@ -2,10 +2,10 @@
 use Rattle.std.proofs.Common.{refl, ℕ, List, [], ◌∷◌, map, codes}
 use Rattle.std.specs.Fmt.{digits}
 use Rattle.netlist_spec.specs.Netlist.{Name}
-use Rattle.netlist_spec.specs.Codes.{detect}
-use Rattle.netlist_spec.specs.Plain.{ConeCostOf, RestsOnLatch, BitCost, IsPlain}
+use Rattle.guard_spec.specs.Codes.{detect, hamming_code}
+use Rattle.guard_spec.specs.Plain.{BitCost, IsPlain}
+use Rattle.netlist_spec.specs.Cones.{ConeCostOf, RestsOnLatch}
 use Rattle.program_spec.specs.Demo.{demo_settings, numbered}
-use Rattle.netlist_spec.specs.Codes.{hamming_code}
 use Rattle.program_examples.specs.ProgramExamples.{demo_model, demo_file, four_layout}
 use Rattle.program_examples.proofs.ConeByTest.{drives_some, cone_marks}
 

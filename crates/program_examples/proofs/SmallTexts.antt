@@ -4,7 +4,7 @@ use Rattle.std.specs.Fmt.{digits}
 use Rattle.netlist_spec.specs.Netlist.{Statement, Model}
 use Rattle.netlist_spec.specs.SourceRun.{Bits}
 use Rattle.netlist_spec.specs.Covers.{number_of}
-use Rattle.netlist_spec.specs.Codes.{weight, encoded, IsLeastData}
+use Rattle.guard_spec.specs.Codes.{weight, encoded, IsLeastData}
 use Rattle.netlist_spec.specs.CellBits.{Bit, latch_bit, output_bit, own, IsBitOf, HasOneBit, IsIndependentCell, shared}
 use Rattle.program_spec.specs.Printed.{IsRunText, IsReport, IsIndependentText, IsFindingText}
 use Rattle.spec_examples.specs.Examples.{inverter_file, parity_code, two_latches}

@@ -7,9 +7,8 @@ use Rattle.netlist_spec.specs.Netlist.{same_name, File}
 use Rattle.program_spec.specs.Commands.{Command, flat, code, netlist_limit, other_limit}
 use Rattle.program_spec.specs.Refusals.{Refusal, file_too_long}
 use Rattle.program_spec.specs.Refusals.{unreadable, bad_settings}
-use Rattle.netlist_spec.specs.SettingsFile.{SettingsFault, settings_without_library_of}
-use Rattle.netlist_spec.specs.Words.{Settings}
-use Rattle.netlist_spec.specs.FlatReady.{IsFlatReady}
+use Rattle.guard_spec.specs.SettingsFile.{SettingsFault, settings_without_library_of}
+use Rattle.guard_spec.specs.Words.{Settings}
 use Rattle.netlist_spec.specs.ReadFaults.{ReadFault, read_fault}
 use Rattle.netlist_spec.specs.Reads.{Reads}
 use Rattle.program_spec.specs.Verdict.{Contents, without, Verdict, refused, passes, not_held, After, Loads, ReadsThen, FlatReadyThen, SettingsWithoutLibraryThen, Passes, IsVerdict, ComesToLoad}

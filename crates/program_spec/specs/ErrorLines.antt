@@ -1,10 +1,10 @@
 -- What a run of the program may come to, the status that it ends with, and the line that it puts to its error output.
-use Rattle.std.specs.Prelude.{ℕ, ◌+◌, List, [], ◌∷◌, ◌++◌, codes, decimal, Option, Some, None}
+use Rattle.std.specs.Prelude.{ℕ, List, [], ◌∷◌, ◌++◌, codes, decimal, Option, Some, None}
 use Rattle.std.specs.List.{flat_map}
 use Rattle.netlist_spec.specs.ReadFaults.{ReadFault, unknown_statement, bad_row, mixed_cover, bad_latch, no_model, long_name, too_many, twice_model, bad_subckt, after_end, word_count}
-use Rattle.netlist_spec.specs.SettingsFile.{SettingsFault, not_toml, missing, bad_value, unknown_key, bad_shape}
+use Rattle.guard_spec.specs.SettingsFile.{SettingsFault, not_toml, missing, bad_value, unknown_key, bad_shape}
 use Rattle.netlist_spec.specs.SoundFaults.{SoundFault, twice, no_such_model, bad_port, recursion, latch_inside, too_deep, undriven, bad_clocking, loop, reserved, too_large}
-use Rattle.netlist_spec.specs.Words.{LayoutFault, no_such_net, in_two_words, not_in_a_word}
+use Rattle.guard_spec.specs.Words.{LayoutFault, no_such_net, in_two_words, not_in_a_word}
 use Rattle.netlist_spec.specs.Ordered.{OrderFault, unordered, has_subckt}
 use Rattle.program_spec.specs.Stimulus.{ScriptFault, bad_script, no_such_cell, more_than_sixteen}
 use Rattle.program_spec.specs.Refusals.{Refusal, file_too_long, unreadable, bad_settings, too_small, unsound, bad_layout, guard_too_large, out_of_order, bad_stimulus, bad_script_line, not_yet}

@@ -6,11 +6,11 @@ use Rattle.netlist_spec.specs.Models.{data_inputs}
 use Rattle.netlist_spec.specs.SourceRun.{Stream}
 use Rattle.netlist_spec.specs.Runs.{Fault}
 use Rattle.netlist_spec.specs.Ordered.{cell_nets}
-use Rattle.netlist_spec.specs.Words.{Settings}
-use Rattle.netlist_spec.specs.SettingsFile.{settings_of_bytes}
+use Rattle.guard_spec.specs.Words.{Settings}
+use Rattle.guard_spec.specs.SettingsFile.{settings_of_bytes}
 use Rattle.program_spec.specs.Stimulus.{stimulus_of}
-use Rattle.netlist_spec.specs.Containment.{IsGuard}
-use Rattle.netlist_spec.specs.Tally.{Tally, IsTally}
+use Rattle.guard_spec.specs.Containment.{IsGuard}
+use Rattle.guard_spec.specs.Tally.{Tally, IsTally}
 use Rattle.program_spec.specs.Printed.{tally_text, demo_text}
 use Rattle.program_spec.specs.Demo.{demo_netlist, demo_settings, demo_stream, demo_cycle}
 use Rattle.netlist_spec.specs.WrittenText.{IsTextOf}

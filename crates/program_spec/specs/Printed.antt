@@ -7,9 +7,9 @@ use Rattle.netlist_spec.specs.Models.{main_model, latch_outputs, output_nets}
 use Rattle.netlist_spec.specs.SourceRun.{Bits, Stream}
 use Rattle.netlist_spec.specs.Ordered.{cell_nets}
 use Rattle.netlist_spec.specs.Runs.{Fault, Run}
-use Rattle.netlist_spec.specs.Codes.{Code, data_places, IsDistance, IsLeastData}
+use Rattle.guard_spec.specs.Codes.{Code, data_places, IsDistance, IsLeastData}
 use Rattle.netlist_spec.specs.CellBits.{Bit, latch_bit, output_bit, cells_of, HasOneBit, IsIndependent, IsFinding, Finding, wide, unused, shared, reads_output}
-use Rattle.netlist_spec.specs.Tally.{Tally}
+use Rattle.guard_spec.specs.Tally.{Tally}
 
 -- a word and a number on a line
 abbrev pub number_line : List ℕ → ℕ → List ℕ

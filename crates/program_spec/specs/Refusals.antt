@@ -1,9 +1,9 @@
 -- Every named refusal of the program.
 use Rattle.std.specs.Prelude.{ℕ, List}
 use Rattle.netlist_spec.specs.ReadFaults.{ReadFault}
-use Rattle.netlist_spec.specs.SettingsFile.{SettingsFault}
+use Rattle.guard_spec.specs.SettingsFile.{SettingsFault}
 use Rattle.netlist_spec.specs.SoundFaults.{SoundFault}
-use Rattle.netlist_spec.specs.Words.{LayoutFault}
+use Rattle.guard_spec.specs.Words.{LayoutFault}
 use Rattle.netlist_spec.specs.Ordered.{OrderFault}
 use Rattle.program_spec.specs.Stimulus.{ScriptFault}
 

@@ -9,10 +9,10 @@ use Rattle.netlist_spec.specs.ReadFaults.{read_fault}
 use Rattle.netlist_spec.specs.Sound.{IsSound}
 use Rattle.netlist_spec.specs.SoundFaults.{SoundFault, IsRefusedWith}
 use Rattle.netlist_spec.specs.Ordered.{order_fault, cell_nets}
-use Rattle.netlist_spec.specs.Codes.{needed_distance, IsDistance}
-use Rattle.netlist_spec.specs.Words.{Settings, Layout, IsLayout, layout_fault}
-use Rattle.netlist_spec.specs.Plain.{IsPlain}
-use Rattle.netlist_spec.specs.SettingsFile.{settings_of_bytes, settings_without_library_of}
+use Rattle.guard_spec.specs.Codes.{needed_distance, IsDistance}
+use Rattle.guard_spec.specs.Words.{Settings, Layout, IsLayout, layout_fault}
+use Rattle.guard_spec.specs.Plain.{IsPlain}
+use Rattle.guard_spec.specs.SettingsFile.{settings_of_bytes, settings_without_library_of}
 use Rattle.netlist_spec.specs.SourceRun.{Stream}
 use Rattle.netlist_spec.specs.Runs.{Fault}
 use Rattle.program_spec.specs.Stimulus.{stimulus_of, script_of}

@@ -3,7 +3,7 @@ use Rattle.std.proofs.Common.{◌≡◌, ℕ, Bool, true, false, List, [], ◌�
 use Rattle.std.specs.Prelude.{◌&&◌, nat_le, if◌then◌else◌}
 use Rattle.std.proofs.lemmas.List.{length-map}
 use Rattle.netlist_spec.specs.Digits.{each_gives}
-use Rattle.netlist_spec.specs.SettingsFile.{item_list, as_items, as_text, then_gives, texts_of, name_of, word_of, words_of}
+use Rattle.guard_spec.specs.SettingsFile.{item_list, as_items, as_text, then_gives, texts_of, name_of, word_of, words_of}
 use Rattle.toml.specs.Data.{Data, string, integer, float, boolean, datetime, array, table, Items, as_array}
 use Rattle.toml.specs.View.{view, items_of, items_view}
 use Rattle.toml.specs.declared.value.Value.{Value}

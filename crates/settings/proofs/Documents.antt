@@ -5,8 +5,8 @@ use Rattle.std.specs.Str.{is_utf8}
 use Rattle.std.proofs.lemmas.Str.{IsUtf8-from_is_utf8, is_utf8-from_IsUtf8}
 use Rattle.netlist_spec.specs.Netlist.{Name}
 use Rattle.netlist_spec.specs.SourceRun.{Bits}
-use Rattle.netlist_spec.specs.Codes.{Mode}
-use Rattle.netlist_spec.specs.SettingsFile.{SettingsFault, not_toml, bad_shape, texts_of, bit_rows, mode_of, whole_between, words_of, needed, optional, no_other_key, keys_without_library, settings_without_library, settings_without_library_of, of_document_without_library}
+use Rattle.guard_spec.specs.Codes.{Mode}
+use Rattle.guard_spec.specs.SettingsFile.{SettingsFault, not_toml, bad_shape, texts_of, bit_rows, mode_of, whole_between, words_of, needed, optional, no_other_key, keys_without_library, settings_without_library, settings_without_library_of, of_document_without_library}
 use Rattle.toml.specs.Data.{Members}
 use Rattle.toml.specs.Parse.{parse_document}
 use Rattle.settings.specs.Faults.{IsFault, IsNoDocument}

@@ -2,7 +2,7 @@
 use Rattle.std.proofs.Common.{◌≡◌, ℕ, Bool, true, false, List, [], ◌∷◌, option_map, String, Global, string_bytes, refl}
 use Rattle.std.specs.Prelude.{find}
 use Rattle.std.specs.Map.{keys_of}
-use Rattle.netlist_spec.specs.SettingsFile.{member_list}
+use Rattle.guard_spec.specs.SettingsFile.{member_list}
 use Rattle.toml.specs.Data.{Data}
 use Rattle.toml.specs.View.{members_view}
 use Rattle.toml.specs.declared.value.Value.{Value}

@@ -1,7 +1,7 @@
 -- A row as a number, one more character at a time.
 use Rattle.std.proofs.Common.{◌≡◌, ℕ, ◌+◌, ◌*◌, ◌%◌, ◌^◌, ◌<◌, ◌≤◌, true, false, [], ◌∷◌, ◌++◌, sym, ◌∙◌, ap, subst, arith}
 use Rattle.std.specs.Int.RustNames.{bit_or}
-use Rattle.netlist_spec.specs.Codes.{bits_of}
+use Rattle.guard_spec.specs.Codes.{bits_of}
 use Rattle.block_code.proofs.Words.{bits_joined, joined_below, joined_or}
 
 zero_joined : (j u : ℕ) → 0 * 2 ^ j + u ≡ u

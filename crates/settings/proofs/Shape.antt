@@ -7,8 +7,8 @@ use Rattle.std.proofs.lemmas.Bool.Decides.{nat_tests}
 use Rattle.netlist_spec.specs.Digits.{each_gives}
 use Rattle.netlist_spec.specs.Netlist.{Name, IsName}
 use Rattle.netlist_spec.specs.Covers.{IsLibrary, empty_library}
-use Rattle.netlist_spec.specs.SettingsFile.{bad_value, as_items, as_text, name_of, word_of, words_of, then_gives, AreWordNames, IsSettings, optional}
-use Rattle.netlist_spec.specs.Codes.{IsCode, data_places}
+use Rattle.guard_spec.specs.SettingsFile.{bad_value, as_items, as_text, name_of, word_of, words_of, then_gives, AreWordNames, IsSettings, optional}
+use Rattle.guard_spec.specs.Codes.{IsCode, data_places}
 use Rattle.settings.specs.declared.types.Settings.TheInside.{Inside}
 use Rattle.settings.specs.Types.{settings_in, words_in}
 use Rattle.toml.specs.Data.{Data, Members, get_member}

@@ -1,7 +1,7 @@
 -- Steps that may fail, one behind the other.
 use Rattle.std.proofs.Common.{◌≡◌, refl, true, false, Option, None, Some, Result, Ok, Err}
 use Rattle.std.specs.Prelude.{is_some}
-use Rattle.netlist_spec.specs.SettingsFile.{SettingsFault, ◌>>=◌}
+use Rattle.guard_spec.specs.SettingsFile.{SettingsFault, ◌>>=◌}
 use Rattle.settings.specs.Faults.{IsFault}
 
 pub then_fails : {A B : Type 0} (r : Result A SettingsFault) (f : A → Result B SettingsFault) (o : Option SettingsFault) → IsFault r o → IsFault (r >>= f) o

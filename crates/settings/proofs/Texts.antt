@@ -6,8 +6,8 @@ use Rattle.std.proofs.lemmas.Bool.Decides.{nat_tests}
 use Rattle.std.proofs.lemmas.List.{length-map}
 use Rattle.netlist_spec.specs.Digits.{each_gives, bits_of_text}
 use Rattle.netlist_spec.specs.SourceRun.{Bits}
-use Rattle.netlist_spec.specs.Codes.{Code, bits_of}
-use Rattle.netlist_spec.specs.SettingsFile.{missing, bad_value, bad_shape, as_text, texts_of, bit_rows, code_of, ◌>>=◌}
+use Rattle.guard_spec.specs.Codes.{Code, bits_of}
+use Rattle.guard_spec.specs.SettingsFile.{missing, bad_value, bad_shape, as_text, texts_of, bit_rows, code_of, ◌>>=◌}
 use Rattle.block_code.specs.Shape.{code_of as numbers_code}
 use Rattle.block_code.proofs.Words.{length_bits}
 use Rattle.toml.specs.View.{view}

@@ -1,6 +1,6 @@
 -- What the faults of this crate stand for.
 use Rattle.std.specs.Prelude.{◌≡◌, ⊤, Option, None, Some, Result, Err}
-use Rattle.netlist_spec.specs.SettingsFile.{SettingsFault, not_toml, missing, bad_value, unknown_key, bad_shape}
+use Rattle.guard_spec.specs.SettingsFile.{SettingsFault, not_toml, missing, bad_value, unknown_key, bad_shape}
 use Rattle.toml.specs.Data.{Members}
 use Rattle.settings.specs.declared.fault.SetFault.{SetFault}
 use Rattle.settings.specs.declared.fault.SetFault.TheVariants.{NotToml, Missing, BadValue, UnknownKey, BadShape, NoMemory}

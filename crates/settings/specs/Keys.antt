@@ -1,7 +1,7 @@
 -- The keys of a document that stand in none of the tables.
 use Rattle.std.specs.Prelude.{List, ℕ, Option, find, not, option_map}
 use Rattle.netlist_spec.specs.Netlist.{stands_in}
-use Rattle.netlist_spec.specs.SettingsFile.{keys_without_library, member_list}
+use Rattle.guard_spec.specs.SettingsFile.{keys_without_library, member_list}
 use Rattle.toml.specs.Data.{Data, Members}
 
 -- the first key in byte order that isn't one of the five

@@ -2,7 +2,7 @@
 use Rattle.std.specs.Prelude.{ℕ, List, length, Option, Some, None, Result, ok_or, codes, ◌==◌, if◌then◌else◌}
 use Rattle.netlist_spec.specs.Digits.{bits_of_text}
 use Rattle.netlist_spec.specs.SourceRun.{Bits}
-use Rattle.netlist_spec.specs.SettingsFile.{SettingsFault, bad_shape, as_text, then_gives, texts_of, bit_rows, needed, ◌>>=◌}
+use Rattle.guard_spec.specs.SettingsFile.{SettingsFault, bad_shape, as_text, then_gives, texts_of, bit_rows, needed, ◌>>=◌}
 use Rattle.toml.specs.Data.{Data, Members}
 
 -- the row of a text of so many characters

@@ -3,9 +3,9 @@ use Rattle.std.specs.Prelude.{List, map, option_map, Vec}
 use Rattle.std.specs.declared.alloc.Global.{Global}
 use Rattle.netlist_spec.specs.Netlist.{Name}
 use Rattle.netlist_spec.specs.Covers.{empty_library}
-use Rattle.netlist_spec.specs.Codes.{Mode, detect, correct}
-use Rattle.netlist_spec.specs.Words.{Settings}
-use Rattle.netlist_spec.specs.SettingsFile.{IsSettings}
+use Rattle.guard_spec.specs.Codes.{Mode, detect, correct}
+use Rattle.guard_spec.specs.Words.{Settings}
+use Rattle.guard_spec.specs.SettingsFile.{IsSettings}
 use Rattle.settings.specs.declared.types.Mode.{Mode as ReadMode}
 use Rattle.settings.specs.declared.types.Mode.TheVariants.{Detect, Correct}
 use Rattle.settings.specs.declared.types.Settings.TheInside.{Inside}

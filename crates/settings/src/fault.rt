@@ -1,6 +1,6 @@
 // Why a settings file is refused.
 ghost use Rattle.std.specs.Prelude.{◌≡◌, Err};
-ghost use Rattle.netlist_spec.specs.SettingsFile.{missing, bad_value, unknown_key};
+ghost use Rattle.guard_spec.specs.SettingsFile.{missing, bad_value, unknown_key};
 ghost use Rattle.settings.specs.Faults.{fault_of, IsFault};
 
 use crate::Text;

@@ -1,7 +1,7 @@
 // The keys of a document.
 ghost use Rattle.std.specs.Prelude.{◌≡◌, Ok, Err, IfOk, IfErr, OnOk, ok_or, option_map, string_bytes};
 ghost use Rattle.netlist_spec.specs.Netlist.{stands_in};
-ghost use Rattle.netlist_spec.specs.SettingsFile.{missing, bad_value, unknown_key, keys_without_library, no_other_key};
+ghost use Rattle.guard_spec.specs.SettingsFile.{missing, bad_value, unknown_key, keys_without_library, no_other_key};
 ghost use Rattle.toml.specs.Data.{Data, get_member};
 ghost use Rattle.toml.specs.View.{view, table_view};
 ghost use Rattle.settings.specs.Faults.{fault_of, IsFault};

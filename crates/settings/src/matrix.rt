@@ -1,8 +1,8 @@
 // The check matrix.
 ghost use Rattle.std.specs.Prelude.{◌≡◌, ◌≤◌, ◌<◌, ◌^◌, ℕ, List, Some, Ok, length, map, option_map, is_some, All, IfSome, IfOk, IfErr};
-ghost use Rattle.netlist_spec.specs.Codes.{bits_of};
+ghost use Rattle.guard_spec.specs.Codes.{bits_of};
 ghost use Rattle.netlist_spec.specs.Digits.{bit_of_char, bits_of_text, each_gives};
-ghost use Rattle.netlist_spec.specs.SettingsFile.{as_text, bit_rows, code_of};
+ghost use Rattle.guard_spec.specs.SettingsFile.{as_text, bit_rows, code_of};
 ghost use Rattle.toml.specs.View.{view, table_view};
 ghost use Rattle.settings.specs.Faults.{fault_of, IsFault};
 ghost use Rattle.settings.specs.Matrix.{row_at, text_length, check_of};

@@ -1,6 +1,6 @@
 // The settings file as a whole.
 ghost use Rattle.std.specs.Prelude.{◌≡◌, Ok, Some, None, IfOk, IfErr};
-ghost use Rattle.netlist_spec.specs.SettingsFile.{IsSettings, settings_without_library, settings_without_library_of};
+ghost use Rattle.guard_spec.specs.SettingsFile.{IsSettings, settings_without_library, settings_without_library_of};
 ghost use Rattle.toml.specs.Parse.{parse_document};
 ghost use Rattle.toml.specs.View.{table_view};
 ghost use Rattle.settings.specs.Faults.{fault_of, IsFault, IsNoDocument};

@@ -1,6 +1,6 @@
 // The mode and the bound.
 ghost use Rattle.std.specs.Prelude.{◌≡◌, ◌≤◌, Ok, IfOk, IfErr, option_map, codes};
-ghost use Rattle.netlist_spec.specs.SettingsFile.{needed, mode_of, mode_named, whole_between};
+ghost use Rattle.guard_spec.specs.SettingsFile.{needed, mode_of, mode_named, whole_between};
 ghost use Rattle.toml.specs.View.{view, table_view};
 ghost use Rattle.settings.specs.Faults.{fault_of, IsFault};
 ghost use Rattle.settings.specs.Types.{mode_in};

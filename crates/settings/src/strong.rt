@@ -1,7 +1,7 @@
 // Whether a code is strong enough for its settings.
 ghost use Rattle.std.specs.Prelude.{◌≡◌, ℕ, ◌+◌, ◌*◌, ◌<◌, ◌≤◌, ◌↔◌, IfOk, IfErr, IsOk};
-ghost use Rattle.netlist_spec.specs.Codes.{IsDistance, needed_distance};
-ghost use Rattle.netlist_spec.specs.SettingsFile.{IsSettings};
+ghost use Rattle.guard_spec.specs.Codes.{IsDistance, needed_distance};
+ghost use Rattle.guard_spec.specs.SettingsFile.{IsSettings};
 ghost use Rattle.settings.specs.Types.{mode_in};
 
 use crate::{Mode, Settings};

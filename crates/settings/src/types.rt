@@ -23,7 +23,7 @@ pub struct Settings {
 }
 
 impl Model for Settings {
-    ghost use Rattle.netlist_spec.specs.Words.{Settings as GuardSettings};
+    ghost use Rattle.guard_spec.specs.Words.{Settings as GuardSettings};
 
     ghost Value = { GuardSettings };
 

@@ -1,7 +1,7 @@
 // Words over latches and over outputs, as names.
 ghost use Rattle.std.specs.Prelude.{◌≡◌, ◌&&◌, nat_le, Ok, map, option_map, IfOk, IfErr};
 ghost use Rattle.netlist_spec.specs.Digits.{each_gives};
-ghost use Rattle.netlist_spec.specs.SettingsFile.{name_of, word_of, words_of, optional};
+ghost use Rattle.guard_spec.specs.SettingsFile.{name_of, word_of, words_of, optional};
 ghost use Rattle.toml.specs.View.{view, table_view};
 ghost use Rattle.settings.specs.Faults.{fault_of, IsFault};
 ghost use Rattle.settings.specs.Types.{names_in, words_in};

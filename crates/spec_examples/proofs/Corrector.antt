@@ -6,10 +6,10 @@ use Rattle.std.specs.List.{AllByRecursion}
 use Rattle.netlist_spec.specs.Covers.{has_bit}
 use Rattle.netlist_spec.specs.SourceRun.{Bits}
 use Rattle.netlist_spec.specs.Gates.{bit_number, IsMachine, AnswersWithin}
-use Rattle.netlist_spec.specs.Codes.{encoded, weight, apart, correct}
-use Rattle.netlist_spec.specs.Words.{IsPartition, codewords}
+use Rattle.guard_spec.specs.Codes.{encoded, weight, apart, correct}
+use Rattle.guard_spec.specs.Words.{IsPartition, codewords}
 use Rattle.netlist_spec.specs.CellBits.{latch_bit, output_bit}
-use Rattle.netlist_spec.specs.Count.{right_outputs}
+use Rattle.guard_spec.specs.Count.{right_outputs}
 use Rattle.containment.specs.Built.{IsCoded, IsBuilt}
 use Rattle.containment.specs.RegionAnswers.{RegionsAnswer}
 use Rattle.spec_examples.specs.Toggle.{toggle, thrice_code, toggle_corrector}
@@ -17,7 +17,8 @@ use Rattle.spec_examples.specs.Examples.{inverter_layout}
 use Rattle.containment.proofs.Regions.{regions_count}
 use Rattle.spec_examples.proofs.Tests.{covers_by_test, own_nets_by_test, separate_by_test}
 use Rattle.spec_examples.proofs.Toggle.{or_answer, turned, copied}
-use Rattle.netlist_spec.specs.Regions.{AreSeparate, Region, CoversGates, IsBitNet, HaveOwnNets}
+use Rattle.guard_spec.specs.Regions.{AreSeparate, CoversGates, IsBitNet, HaveOwnNets}
+use Rattle.netlist_spec.specs.GateRanges.{Region}
 
 and_answer : (a b : Bool) → has_bit 8 (2 * bit_number a + bit_number b) ≡ (a && b)
 and_answer true true = refl

@@ -6,7 +6,7 @@ use Rattle.std.specs.Cmp.Lexicographic.{bytes_decides}
 use Rattle.netlist_spec.specs.Netlist.{Name, same_name, stands_in, Statement, names, latch, subckt, Model}
 use Rattle.netlist_spec.specs.Models.{Gate, gates_of, latch_outputs, latch_inputs, output_nets}
 use Rattle.netlist_spec.specs.CellBits.{Bit, latch_bit, output_bit, stands_before, Reaches, own, on, IsGateBit, IsBitOf, is_rail_name, IsRail, IsWide, output_read, HasOneBit, IsIndependentCell, cells_of, IsIndependent}
-use Rattle.netlist_spec.specs.Shaped.{NeverBack}
+use Rattle.guard_spec.specs.Shaped.{NeverBack}
 use Rattle.netlist_spec.proofs.ListTests.{both, either, implies, any_element, any_from, all_at, all_below}
 
 -- ---- nets that are reached

@@ -5,8 +5,9 @@ use Rattle.std.specs.Cmp.Lexicographic.{bytes_decides}
 use Rattle.netlist_spec.specs.Netlist.{Name, Statement, names, latch, plain, stands_in, same_name}
 use Rattle.netlist_spec.specs.Covers.{empty_library}
 use Rattle.netlist_spec.specs.Sound.{IsSound, IsSoundModel, IsSoundMain, ReadsFor, IsLoop, combines, drives, reads}
-use Rattle.netlist_spec.specs.Plain.{IsPlain, IsReached, itself, behind, IsInCone}
-use Rattle.netlist_spec.specs.Codes.{detect}
+use Rattle.guard_spec.specs.Plain.{IsPlain}
+use Rattle.netlist_spec.specs.Cones.{IsReached, itself, behind, IsInCone}
+use Rattle.guard_spec.specs.Codes.{detect}
 use Rattle.spec_examples.specs.Examples.{inverter_cover, inverter_model, inverter_file, inverter_layout, parity_code}
 use Rattle.spec_examples.proofs.Single.{only_chain, main_is, used_is}
 

@@ -7,7 +7,7 @@ use Rattle.netlist_spec.specs.Netlist.{same_name}
 use Rattle.netlist_spec.specs.Covers.{empty_library, cover_value}
 use Rattle.netlist_spec.specs.Fits.{Valuation, Fits, fits, none, fits_names, fits_latch}
 use Rattle.netlist_spec.specs.SourceRun.{Bits, SourceCycle}
-use Rattle.netlist_spec.specs.Plain.{itself, behind, IsInCone, ConeCostOf, RestsOnLatch, IsGateReached, same_net, read_by, GateConeCost}
+use Rattle.netlist_spec.specs.Cones.{itself, behind, IsInCone, ConeCostOf, RestsOnLatch, IsGateReached, same_net, read_by, GateConeCost}
 use Rattle.netlist_spec.specs.Gates.{GateStep, GateForm, gate_reads, gate_cover}
 use Rattle.netlist_spec.specs.Models.{Gate, gates_of, latch_inputs}
 use Rattle.netlist_spec.specs.Placed.{port_names}
@@ -17,12 +17,12 @@ use Rattle.netlist_spec.specs.Netlist.{Model, File}
 use Rattle.netlist_spec.specs.CellBits.{Bit, latch_bit, output_bit, is_rail_name, IsIndependent}
 use Rattle.netlist_spec.specs.Written.{net_name}
 use Rattle.netlist_spec.specs.Ordered.{IsOrdered}
-use Rattle.netlist_spec.specs.Shaped.{IsShaped, gate_cells}
+use Rattle.guard_spec.specs.Shaped.{IsShaped, gate_cells}
 use Rattle.spec_examples.specs.Examples.{inverter_model, inverter_file, inverter_cover, inverter_layout, parity_settings}
 use Rattle.spec_examples.proofs.Inverter.{its_gate, inverter_plain}
 use Rattle.spec_examples.proofs.IndependentByTest.{independent_by_test, never_back_by_test}
 use Rattle.netlist_spec.specs.Runs.{IsSteady}
-use Rattle.netlist_spec.specs.Containment.{IsGuard}
+use Rattle.guard_spec.specs.Containment.{IsGuard}
 use Rattle.spec_examples.specs.Toggle.{toggle, toggle_guard, toggle_named, toggle_text}
 use Rattle.containment.specs.Written.{net_of, IsWellNamed, NamesRails, IsNamedGuard, IsBuiltText}
 use Rattle.containment.proofs.WrittenRuns.{written_runs}

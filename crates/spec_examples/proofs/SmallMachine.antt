@@ -8,7 +8,7 @@ use Rattle.netlist_spec.specs.Fits.{Valuation, Fits, fits, none, fits_names, fit
 use Rattle.netlist_spec.specs.SourceRun.{Bits, SourceCycle}
 use Rattle.netlist_spec.specs.Gates.{IsMachine, shown_net, GateStep}
 use Rattle.netlist_spec.specs.Sound.{ReadsFor}
-use Rattle.netlist_spec.specs.Plain.{IsReached, itself, behind, ConeCostOf, IsGateReached, same_net, read_by, GateConeCost}
+use Rattle.netlist_spec.specs.Cones.{IsReached, itself, behind, ConeCostOf, IsGateReached, same_net, read_by, GateConeCost}
 use Rattle.netlist_spec.specs.Elaborated.{CostsNoMore, IsMachineOf, IsElaborated}
 use Rattle.spec_examples.specs.Examples.{inverter_cover, inverter_model, inverter_file, inverter_machine, inverter_elaborated}
 

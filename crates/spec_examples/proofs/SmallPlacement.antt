@@ -1,11 +1,11 @@
 -- A source that places a model is sound.
-use Rattle.std.proofs.Common.{◌≡◌, refl, sym, ◌∙◌, ap, subst, ℕ, zero, suc, ◌<◌, ◌⊎◌, inl, inr, List, [], ◌∷◌, get_or, codes, Bool, true, false, ◌||◌, Some, None, arith, lit<, lit≤, ◌≤◌}
+use Rattle.std.proofs.Common.{◌≡◌, refl, sym, ◌∙◌, ap, subst, ℕ, zero, suc, ◌<◌, ◌⊎◌, inl, inr, List, [], ◌∷◌, get_or, codes, Bool, true, false, ◌||◌, Some, arith, lit≤, ◌≤◌}
 use Rattle.std.specs.Prelude.{IsTrue}
 use Rattle.std.specs.Cmp.Lexicographic.{bytes_decides}
-use Rattle.netlist_spec.specs.Netlist.{Name, Statement, subckt, names, Model, File, same_name, stands_in}
+use Rattle.netlist_spec.specs.Netlist.{Name, Statement, names, Model, same_name, stands_in}
 use Rattle.netlist_spec.specs.Covers.{empty_library}
 use Rattle.netlist_spec.specs.Placed.{find_model}
-use Rattle.netlist_spec.specs.Sound.{Chain, Places, IsMain, IsUsed, ReadsFor, IsLoop, drives, reads, combines, IsSound, IsSoundModel, IsSoundMain}
+use Rattle.netlist_spec.specs.Sound.{Chain, Places, IsMain, IsUsed, ReadsFor, IsLoop, drives, reads, IsSound, IsSoundModel, IsSoundMain}
 use Rattle.spec_examples.specs.Examples.{buffer_cover}
 use Rattle.spec_examples.specs.SourceExamples.{copying_model, placing_statement, placing_model, placing_file}
 

@@ -1,7 +1,7 @@
 -- What holds of all settings holds of small ones.
 use Rattle.std.proofs.Common.{refl, lit<, lit≤}
 use Rattle.netlist_spec.specs.Covers.{IsLibrary}
-use Rattle.netlist_spec.specs.SettingsFile.{IsSettings}
+use Rattle.guard_spec.specs.SettingsFile.{IsSettings}
 use Rattle.spec_examples.specs.Examples.{cipher_library, settings_read}
 
 pub cipher_is_library : IsLibrary cipher_library

@@ -6,7 +6,8 @@ use Rattle.std.proofs.lemmas.List.Elements.{All-from_recursion}
 use Rattle.std.specs.List.{AllByRecursion, list_all, list_any, range_with_len}
 use Rattle.netlist_spec.specs.Gates.{GateForm, GateList, Machine, ForcedNets, latch_nets, gate_reads, ReadsNet}
 use Rattle.netlist_spec.specs.CellBits.{Bit, latch_bit, output_bit, stands_before}
-use Rattle.netlist_spec.specs.Regions.{Region, Guarded, IsBitNet, IsRegion, CoversGates, HaveOwnNets, LiesIn, IsRailBit, MayRead, LeadsToEnd, is_end, is_read, AreSeparate, IsCellOf, IsUntouched}
+use Rattle.guard_spec.specs.Regions.{Guarded, IsBitNet, IsRegion, CoversGates, HaveOwnNets, IsRailBit, MayRead, AreSeparate, IsCellOf, IsUntouched}
+use Rattle.netlist_spec.specs.GateRanges.{Region, LiesIn, LeadsToEnd, is_end, is_read}
 use Rattle.netlist_spec.proofs.ListTests.{both, either, any_element, any_from, all_elements, all_at, all_below}
 
 abbrev is_net : Option ℕ → ℕ → Bool

@@ -7,12 +7,13 @@ use Rattle.std.specs.List.{AllByRecursion}
 use Rattle.netlist_spec.specs.Covers.{differ, has_bit}
 use Rattle.netlist_spec.specs.SourceRun.{Bits}
 use Rattle.netlist_spec.specs.Gates.{bit_number, AnswersWithin}
-use Rattle.netlist_spec.specs.Codes.{IsCodeword, detect}
-use Rattle.netlist_spec.specs.Words.{codewords}
+use Rattle.guard_spec.specs.Codes.{IsCodeword, detect}
+use Rattle.guard_spec.specs.Words.{codewords}
 use Rattle.netlist_spec.specs.CellBits.{latch_bit, output_bit}
-use Rattle.netlist_spec.specs.Count.{right_outputs}
-use Rattle.netlist_spec.specs.Regions.{AreSeparate, Region, IsBitNet, HaveOwnNets}
-use Rattle.netlist_spec.specs.Rails.{SomeNoCodeword}
+use Rattle.guard_spec.specs.Count.{right_outputs}
+use Rattle.guard_spec.specs.Regions.{AreSeparate, IsBitNet, HaveOwnNets}
+use Rattle.netlist_spec.specs.GateRanges.{Region}
+use Rattle.guard_spec.specs.Rails.{SomeNoCodeword}
 use Rattle.spec_examples.specs.Examples.{inverter_layout}
 use Rattle.containment.specs.Built.{IsTellingGuard}
 use Rattle.containment.specs.RegionAnswers.{RegionsAnswer, RailsAnswer}
@@ -34,7 +35,7 @@ differ_none a b c d ([], long, e) = absurd (omega arith)
 differ_none a b c d (x ∷ k ∷ u, long, e) = absurd (omega arith)
 differ_none a b c d (x ∷ [], long, e) = triple x (e ∙ coded x)
   where
-    coded : (x : Bool) → Rattle.netlist_spec.specs.Codes.encoded thrice_code (x ∷ []) ≡ x ∷ x ∷ x ∷ []
+    coded : (x : Bool) → Rattle.guard_spec.specs.Codes.encoded thrice_code (x ∷ []) ≡ x ∷ x ∷ x ∷ []
     coded true = refl
     coded false = refl
 

@@ -7,10 +7,10 @@ use Rattle.std.specs.List.{AllByRecursion}
 use Rattle.netlist_spec.specs.Covers.{differ, has_bit}
 use Rattle.netlist_spec.specs.SourceRun.{Bits}
 use Rattle.netlist_spec.specs.Gates.{bit_number, IsMachine, shown_net, GateStep, AnswersWithin, latch_nets}
-use Rattle.netlist_spec.specs.Codes.{checks_of, encoded, weight, IsCodeword, detect}
-use Rattle.netlist_spec.specs.Words.{IsPartition, codewords}
+use Rattle.guard_spec.specs.Codes.{checks_of, encoded, weight, IsCodeword, detect}
+use Rattle.guard_spec.specs.Words.{IsPartition, codewords}
 use Rattle.netlist_spec.specs.CellBits.{latch_bit, output_bit}
-use Rattle.netlist_spec.specs.Count.{right_outputs, StateWordsAre, IsNear}
+use Rattle.guard_spec.specs.Count.{right_outputs, StateWordsAre, IsNear}
 use Rattle.containment.specs.Built.{IsCoded, IsBuilt}
 use Rattle.containment.specs.RegionAnswers.{RegionsAnswer, RailsAnswer}
 use Rattle.spec_examples.specs.Toggle.{toggle, toggle_guard}
@@ -18,8 +18,9 @@ use Rattle.spec_examples.specs.Examples.{parity_code, inverter_layout}
 use Rattle.containment.proofs.OneCycle.{zip_at}
 use Rattle.spec_examples.proofs.Tests.{covers_by_test, own_nets_by_test, separate_by_test}
 use Rattle.containment.proofs.Regions.{regions_count, rails_count}
-use Rattle.netlist_spec.specs.Regions.{AreSeparate, Region, CoversGates, IsBitNet, HaveOwnNets}
-use Rattle.netlist_spec.specs.Rails.{SomeNoCodeword, RailsTell}
+use Rattle.guard_spec.specs.Regions.{AreSeparate, CoversGates, IsBitNet, HaveOwnNets}
+use Rattle.netlist_spec.specs.GateRanges.{Region}
+use Rattle.guard_spec.specs.Rails.{SomeNoCodeword, RailsTell}
 
 pub check_is : (b : Bool) → checks_of parity_code (b ∷ []) ≡ b ∷ []
 check_is true = refl

@@ -6,11 +6,12 @@ use Rattle.std.specs.List.{AllByRecursion, range_with_len}
 use Rattle.netlist_spec.specs.Covers.{differ}
 use Rattle.netlist_spec.specs.SourceRun.{Bits}
 use Rattle.netlist_spec.specs.Gates.{IsMachine, GateStep, AnswersWithin}
-use Rattle.netlist_spec.specs.Codes.{detect}
+use Rattle.guard_spec.specs.Codes.{detect}
 use Rattle.netlist_spec.specs.CellBits.{output_bit}
-use Rattle.netlist_spec.specs.Regions.{Region, CoversGates, HaveOwnNets, AreSeparate, IsBitNet}
-use Rattle.netlist_spec.specs.Count.{right_outputs}
-use Rattle.netlist_spec.specs.Rails.{SomeNoCodeword, RailsTell}
+use Rattle.guard_spec.specs.Regions.{CoversGates, HaveOwnNets, AreSeparate, IsBitNet}
+use Rattle.netlist_spec.specs.GateRanges.{Region}
+use Rattle.guard_spec.specs.Count.{right_outputs}
+use Rattle.guard_spec.specs.Rails.{SomeNoCodeword, RailsTell}
 use Rattle.spec_examples.specs.Examples.{parity_code}
 use Rattle.containment.specs.Built.{IsCoded, IsBuilt}
 use Rattle.containment.specs.RegionAnswers.{RegionsAnswer, RailsAnswer}

@@ -4,11 +4,12 @@ use Rattle.std.proofs.lemmas.Option.{same_Some, slice_get_within}
 use Rattle.std.proofs.lemmas.List.{length-map}
 use Rattle.std.proofs.lemmas.List.Elements.{All-contains, All-from_recursion}
 use Rattle.netlist_spec.specs.Gates.{one, two, Machine, IsMachine, ReadsNet, GateStep}
-use Rattle.netlist_spec.specs.Codes.{detect, correct}
+use Rattle.guard_spec.specs.Codes.{detect, correct}
 use Rattle.netlist_spec.specs.CellBits.{Bit, latch_bit, output_bit}
-use Rattle.netlist_spec.specs.Regions.{Guarded, Region, IsRegion, IsBitNet, CoversGates, HaveOwnNets, LiesIn, MayRead, AreSeparate}
-use Rattle.netlist_spec.specs.Count.{Counts}
-use Rattle.netlist_spec.specs.Rails.{RailsTell, SomeNoCodeword}
+use Rattle.guard_spec.specs.Regions.{Guarded, IsRegion, IsBitNet, CoversGates, HaveOwnNets, MayRead, AreSeparate}
+use Rattle.netlist_spec.specs.GateRanges.{Region, LiesIn}
+use Rattle.guard_spec.specs.Count.{Counts}
+use Rattle.guard_spec.specs.Rails.{RailsTell, SomeNoCodeword}
 use Rattle.spec_examples.specs.Examples.{parity_code, inverter_layout}
 use Rattle.containment.specs.Built.{IsBuilt}
 use Rattle.spec_examples.specs.Toggle.{toggle, thrice_code}

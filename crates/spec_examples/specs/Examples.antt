@@ -4,12 +4,12 @@ use Rattle.std.specs.List.{range_with_len}
 use Rattle.netlist_spec.specs.SourceRun.{Bits}
 use Rattle.netlist_spec.specs.Netlist.{Name, Cover, plain, edge, Bind, names, latch, subckt, Port, Located, Model, File, Statement}
 use Rattle.netlist_spec.specs.Covers.{Library}
-use Rattle.netlist_spec.specs.Codes.{Code, detect}
-use Rattle.netlist_spec.specs.Words.{Settings, Layout}
+use Rattle.guard_spec.specs.Codes.{Code, detect}
+use Rattle.guard_spec.specs.Words.{Settings, Layout}
 use Rattle.netlist_spec.specs.Gates.{one, Machine}
 use Rattle.netlist_spec.specs.Written.{Named, given, inner}
 use Rattle.netlist_spec.specs.Elaborated.{Elaborated}
-use Rattle.netlist_spec.specs.Codes.{hamming_code}
+use Rattle.guard_spec.specs.Codes.{hamming_code}
 
 abbrev pub empty_text : List ℕ
 empty_text = codes ".model e\n.end\n"

@@ -1,9 +1,9 @@
 -- Which premises the wrong guards don't meet.
 use Rattle.std.specs.Prelude.{◌≡◌, ◌≢◌, ℕ, map, Some, slice_get}
-use Rattle.netlist_spec.specs.Codes.{detect, correct}
-use Rattle.netlist_spec.specs.Count.{Counts}
-use Rattle.netlist_spec.specs.Rails.{RailsTell}
-use Rattle.netlist_spec.specs.Regions.{Guarded, AreSeparate, HaveOwnNets}
+use Rattle.guard_spec.specs.Codes.{detect, correct}
+use Rattle.guard_spec.specs.Count.{Counts}
+use Rattle.guard_spec.specs.Rails.{RailsTell}
+use Rattle.guard_spec.specs.Regions.{Guarded, AreSeparate, HaveOwnNets}
 use Rattle.spec_examples.specs.Examples.{parity_code, inverter_layout}
 use Rattle.containment.specs.Built.{IsBuilt}
 use Rattle.spec_examples.specs.Toggle.{toggle, thrice_code}

@@ -1,11 +1,11 @@
 -- The smallest guards: of a register of one bit that turns in each cycle and is shown.
 use Rattle.std.specs.Prelude.{true, false, List, [], ◌∷◌, codes}
 use Rattle.netlist_spec.specs.Gates.{one, two, Machine, NetFault}
-use Rattle.netlist_spec.specs.Codes.{Code}
+use Rattle.guard_spec.specs.Codes.{Code}
 use Rattle.netlist_spec.specs.CellBits.{latch_bit, output_bit}
 use Rattle.netlist_spec.specs.Netlist.{plain, File}
 use Rattle.netlist_spec.specs.Written.{Named, given, store, next, check, rail, inner, file_of}
-use Rattle.netlist_spec.specs.Regions.{Guarded}
+use Rattle.guard_spec.specs.Regions.{Guarded}
 
 -- the register as a machine of one gate
 abbrev pub toggle : Machine

@@ -1,9 +1,9 @@
 -- The guard of a source whose one output is its data input.
 use Rattle.std.specs.Prelude.{false, [], ◌∷◌}
 use Rattle.netlist_spec.specs.Gates.{one, two, Machine}
-use Rattle.netlist_spec.specs.Words.{Layout}
+use Rattle.guard_spec.specs.Words.{Layout}
 use Rattle.netlist_spec.specs.CellBits.{output_bit}
-use Rattle.netlist_spec.specs.Regions.{Guarded}
+use Rattle.guard_spec.specs.Regions.{Guarded}
 
 abbrev pub wire : Machine
 wire = record { net = record { leaves = 1; gates = [] }; inputs = 1; latches = []; outputs = 0 ∷ [] }

@@ -1,9 +1,9 @@
 -- Small guards that are wrong.
 use Rattle.std.specs.Prelude.{true, false, List, [], ◌∷◌, ◌++◌}
 use Rattle.netlist_spec.specs.Gates.{GateForm, constant, one, two, Machine}
-use Rattle.netlist_spec.specs.Words.{Layout}
+use Rattle.guard_spec.specs.Words.{Layout}
 use Rattle.netlist_spec.specs.CellBits.{latch_bit, output_bit}
-use Rattle.netlist_spec.specs.Regions.{Guarded}
+use Rattle.guard_spec.specs.Regions.{Guarded}
 
 -- A guard of the wire that shows a copy of the data input in place of the input.
 abbrev pub copying_guard : Guarded

@@ -2,15 +2,15 @@
 
 ghost use Rattle.std.specs.Prelude.{◌≡◌, [], ◌∷◌, true, false};
 ghost use Rattle.netlist_spec.specs.CellBits.{IsIndependent};
-ghost use Rattle.netlist_spec.specs.Codes.{correct, detect};
-ghost use Rattle.netlist_spec.specs.Containment.{IsGuard};
+ghost use Rattle.guard_spec.specs.Codes.{correct, detect};
+ghost use Rattle.guard_spec.specs.Containment.{IsGuard};
 ghost use Rattle.netlist_spec.specs.Covers.{empty_library};
 ghost use Rattle.netlist_spec.specs.Elaborated.{IsMachineOf};
 ghost use Rattle.spec_examples.specs.Examples.{inverter_file, inverter_layout, inverter_model, parity_code, parity_settings};
 ghost use Rattle.netlist_spec.specs.Gates.{GateRun, IsMachine, Machine};
-ghost use Rattle.netlist_spec.specs.Regions.{AreSeparate, CoversGates, Guarded, HaveOwnNets};
+ghost use Rattle.guard_spec.specs.Regions.{AreSeparate, CoversGates, Guarded, HaveOwnNets};
 ghost use Rattle.netlist_spec.specs.Ordered.{IsOrdered};
-ghost use Rattle.netlist_spec.specs.Shaped.{IsShaped};
+ghost use Rattle.guard_spec.specs.Shaped.{IsShaped};
 ghost use Rattle.netlist_spec.specs.Runs.{IsSteady};
 ghost use Rattle.containment.specs.Built.{IsCodedGuard, IsTellingGuard};
 ghost use Rattle.containment.specs.Nets.{AreMoving, AreSteady};

@@ -1,7 +1,7 @@
 use Rattle.std.proofs.Common.{length}
 use Rattle.containment.proofs.AllCycles.{quiet_run, codewords_are_not_bad, no_rails}
 use Rattle.containment.proofs.Dual.{codewords_are_not_far}
-use Rattle.netlist_spec.specs.Rails.{SomeNoCodeword, SomeFarWord}
+use Rattle.guard_spec.specs.Rails.{SomeNoCodeword, SomeFarWord}
 use Rattle.containment.proofs.guards_are_faithful.Goals as goal
 
 pub returns-clause-told : goal.returns-clause-told

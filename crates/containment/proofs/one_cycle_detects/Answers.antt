@@ -1,6 +1,6 @@
 use Rattle.std.proofs.Common.{◌⊎◌, inl, inr, length}
 use Rattle.std.specs.List.{enumerate_from}
-use Rattle.netlist_spec.specs.Rails.{SomeNoCodeword}
+use Rattle.guard_spec.specs.Rails.{SomeNoCodeword}
 use Rattle.containment.proofs.OneCycle.{state_words_tell, output_words_tell}
 use Rattle.containment.proofs.Alarm.{sounds}
 use Rattle.containment.proofs.AllCycles.{whole_and_few, fitting_words}

@@ -1,5 +1,5 @@
 use Rattle.std.proofs.Common.{refl, length}
-use Rattle.netlist_spec.specs.Rails.{SomeNoCodeword, SomeFarWord}
+use Rattle.guard_spec.specs.Rails.{SomeNoCodeword, SomeFarWord}
 use Rattle.containment.proofs.AllCycles.{no_rails}
 use Rattle.containment.proofs.Regions.{region_answers, regions_count, rails_count}
 use Rattle.containment.proofs.regions_answer_alone.Goals as goal

@@ -1,4 +1,4 @@
-use Rattle.netlist_spec.specs.Rails.{IsFarWord, IsNoCodeword}
+use Rattle.guard_spec.specs.Rails.{IsFarWord, IsNoCodeword}
 use Rattle.containment.proofs.IndependentTexts.{independent_text}
 use Rattle.containment.proofs.TellingTexts.{telling_text}
 use Rattle.containment.proofs.separate_texts_are_independent.Goals as goal

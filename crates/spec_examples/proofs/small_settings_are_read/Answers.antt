@@ -1,7 +1,7 @@
 use Rattle.std.proofs.Common.{refl}
 use Rattle.std.specs.Str.{chars, is_utf8}
 use Rattle.toml.proofs.OnLiterals.{toml_on_literals}
-use Rattle.netlist_spec.specs.SettingsFile.{settings_of_bytes}
+use Rattle.guard_spec.specs.SettingsFile.{settings_of_bytes}
 use Rattle.spec_examples.proofs.small_settings_are_read.Goals as goal
 
 pub returns-clause-read : goal.returns-clause-read

@@ -1,5 +1,5 @@
 use Rattle.std.proofs.Common.{◌≡◌, ℕ, ◌<◌, ◌^◌, map, take, All}
-use Rattle.netlist_spec.specs.Codes.{bits_of, checks_by}
+use Rattle.guard_spec.specs.Codes.{bits_of, checks_by}
 use Rattle.block_code.proofs.code.sum_at.Given as goal
 
 abbrev pub invariant-loop-i : goal.invariant-loop-i

@@ -1,6 +1,6 @@
 use Rattle.std.proofs.Common.{◌≡◌, subst}
 use Rattle.netlist_spec.specs.SourceRun.{Bits}
-use Rattle.netlist_spec.specs.Codes.{apart}
+use Rattle.guard_spec.specs.Codes.{apart}
 use Rattle.block_code.proofs.Coding.{apart_sym, apart_zero, apart_same, apart_triangle}
 use Rattle.block_code.proofs.laws.words_have_distances.Goals as goal
 

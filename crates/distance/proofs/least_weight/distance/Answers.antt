@@ -1,5 +1,5 @@
 use Rattle.std.proofs.Common.{ℕ, ◌*◌, ◌%◌, ◌^◌, ◌≤◌, subst, arith}
-use Rattle.netlist_spec.specs.Codes.{data_places}
+use Rattle.guard_spec.specs.Codes.{data_places}
 use Rattle.distance.proofs.Least.{IsLeast, above_one, least_first, least_last, is_distance, is_least_data}
 use Rattle.distance.proofs.least_weight.distance.Goals as goal
 

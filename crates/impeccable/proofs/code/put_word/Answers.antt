@@ -1,7 +1,7 @@
 use Rattle.std.proofs.Common.{codes, ◌++◌, ◌∷◌, []}
 use Rattle.std.proofs.lemmas.Result.{err_from_is_err_and}
 use Rattle.imp_io.proofs.PutLemmas.{Puts-append, Puts-stopped}
-use Rattle.netlist_spec.specs.Codes.{bits_of}
+use Rattle.guard_spec.specs.Codes.{bits_of}
 use Rattle.program_spec.specs.Printed.{bits_text}
 use Rattle.impeccable.proofs.code.put_word.Goals as goal
 

@@ -1,5 +1,5 @@
 use Rattle.std.proofs.Common.{◌≡◌, ◌∙◌, ◌++◌, ◌∷◌, [], ap, sym, length, arith}
-use Rattle.netlist_spec.specs.Codes.{bits_of}
+use Rattle.guard_spec.specs.Codes.{bits_of}
 use Rattle.program_spec.specs.Printed.{bits_text}
 use Rattle.impeccable.proofs.ReportLemmas.{bits-more, bits-long}
 use Rattle.impeccable.proofs.code.word_text.Goals as goal

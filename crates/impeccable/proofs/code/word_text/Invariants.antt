@@ -1,6 +1,6 @@
 -- The places so far stand there.
 use Rattle.std.proofs.Common.{◌≡◌, ◌≤◌}
-use Rattle.netlist_spec.specs.Codes.{bits_of}
+use Rattle.guard_spec.specs.Codes.{bits_of}
 use Rattle.program_spec.specs.Printed.{bits_text}
 use Rattle.impeccable.proofs.code.word_text.Given as goal
 

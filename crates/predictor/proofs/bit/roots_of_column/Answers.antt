@@ -1,7 +1,7 @@
 use Rattle.std.proofs.Common.{sym, ◌∙◌, ap, ℕ, Bool, cond, List, [], ◌∷◌, ◌++◌, map, take, get_or, Some, arith}
 use Rattle.std.proofs.lemmas.List.{append-nil, get_or-map, length-map, map_push}
 use Rattle.std.proofs.lemmas.Option.{slice_get-get_or}
-use Rattle.netlist_spec.specs.Codes.{bits_of}
+use Rattle.guard_spec.specs.Codes.{bits_of}
 use Rattle.gate_net.specs.Gate.{net_number}
 use Rattle.predictor.proofs.Checks.{chosen_roots, chosen_more, row_bit, test_set, test_clear}
 use Rattle.predictor.proofs.bit.roots_of_column.Goals as goal

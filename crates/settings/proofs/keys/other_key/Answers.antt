@@ -4,7 +4,7 @@ use Rattle.std.specs.Map.Iter.{TakesFirst, deref}
 use Rattle.std.proofs.lemmas.Iterator.Consumers.{YieldsList-from_shown}
 use Rattle.std.proofs.lemmas.Iterator.Search.{find_from_yields_List}
 use Rattle.netlist_spec.specs.Netlist.{stands_in}
-use Rattle.netlist_spec.specs.SettingsFile.{keys_without_library}
+use Rattle.guard_spec.specs.SettingsFile.{keys_without_library}
 use Rattle.settings.proofs.OtherKeys.{found_key}
 use Rattle.settings.proofs.keys.other_key.Goals as goal
 

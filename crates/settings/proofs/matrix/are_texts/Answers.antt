@@ -2,7 +2,7 @@ use Rattle.std.proofs.Common.{sym, ◌∙◌, ap, tests, rules}
 use Rattle.std.specs.Prelude.{is_some}
 use Rattle.std.proofs.lemmas.Iterator.{YieldsList-from_slice}
 use Rattle.std.proofs.lemmas.Iterator.Search.{all_from_yields_List}
-use Rattle.netlist_spec.specs.SettingsFile.{as_text}
+use Rattle.guard_spec.specs.SettingsFile.{as_text}
 use Rattle.toml.specs.View.{view}
 use Rattle.settings.proofs.Gives.{gives_map, gives_some}
 use Rattle.settings.proofs.matrix.are_texts.Goals as goal

@@ -1,7 +1,7 @@
 use Rattle.std.proofs.Common.{◌≡◌, Ok, true, false, map, sym}
 use Rattle.std.specs.Prelude.{is_some, codes}
 use Rattle.netlist_spec.specs.Digits.{each_gives}
-use Rattle.netlist_spec.specs.SettingsFile.{as_text, bad_value, code_of}
+use Rattle.guard_spec.specs.SettingsFile.{as_text, bad_value, code_of}
 use Rattle.toml.specs.Data.{Data}
 use Rattle.toml.specs.View.{view, table_view}
 use Rattle.settings.specs.Faults.{fault_of}

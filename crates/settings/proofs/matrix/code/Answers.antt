@@ -2,8 +2,8 @@ use Rattle.std.proofs.Common.{◌≡◌, false, [], ◌∷◌, List, Some, ◌<�
 use Rattle.std.proofs.lemmas.Bool.Decides.{nat_tests}
 use Rattle.std.specs.Prelude.{◌==◌}
 use Rattle.std.proofs.lemmas.List.{length-map}
-use Rattle.netlist_spec.specs.Codes.{Code}
-use Rattle.netlist_spec.specs.SettingsFile.{code_of}
+use Rattle.guard_spec.specs.Codes.{Code}
+use Rattle.guard_spec.specs.SettingsFile.{code_of}
 use Rattle.block_code.specs.Shape.{code_of as numbers_code}
 use Rattle.toml.specs.View.{view}
 use Rattle.toml.specs.declared.value.Value.{Value}

@@ -1,5 +1,5 @@
 use Rattle.std.proofs.Common.{◌≡◌, ◌<◌, ◌^◌, take, Some}
-use Rattle.netlist_spec.specs.Codes.{bits_of}
+use Rattle.guard_spec.specs.Codes.{bits_of}
 use Rattle.netlist_spec.specs.Digits.{bit_of_char, each_gives}
 use Rattle.settings.proofs.matrix.row_number.Given as goal
 

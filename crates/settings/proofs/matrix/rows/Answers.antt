@@ -1,7 +1,7 @@
 use Rattle.std.proofs.Common.{◌≡◌, ℕ, ◌+◌, ◌^◌, ◌<◌, Some, map, sym, ◌∙◌, ap, arith}
 use Rattle.std.proofs.lemmas.List.{map-append, length_push}
 use Rattle.std.proofs.lemmas.List.Elements.{All-push}
-use Rattle.netlist_spec.specs.Codes.{bits_of}
+use Rattle.guard_spec.specs.Codes.{bits_of}
 use Rattle.toml.specs.View.{view}
 use Rattle.settings.specs.Matrix.{row_at}
 use Rattle.settings.proofs.Gives.{values_none, values_more, values_all}

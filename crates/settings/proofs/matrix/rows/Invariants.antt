@@ -1,5 +1,5 @@
 use Rattle.std.proofs.Common.{◌≡◌, ◌<◌, ◌^◌, length, take, map, Some, All}
-use Rattle.netlist_spec.specs.Codes.{bits_of}
+use Rattle.guard_spec.specs.Codes.{bits_of}
 use Rattle.netlist_spec.specs.Digits.{each_gives}
 use Rattle.toml.specs.View.{view}
 use Rattle.settings.specs.Matrix.{row_at}

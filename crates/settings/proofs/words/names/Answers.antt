@@ -1,5 +1,5 @@
 use Rattle.std.proofs.Common.{sym, ◌∙◌, arith}
-use Rattle.netlist_spec.specs.SettingsFile.{name_of}
+use Rattle.guard_spec.specs.SettingsFile.{name_of}
 use Rattle.settings.proofs.Gives.{values_none, values_more, values_all}
 use Rattle.settings.proofs.words.names.Goals as goal
 

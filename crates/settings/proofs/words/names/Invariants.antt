@@ -1,6 +1,6 @@
 use Rattle.std.proofs.Common.{◌≡◌, take, Some}
 use Rattle.netlist_spec.specs.Digits.{each_gives}
-use Rattle.netlist_spec.specs.SettingsFile.{name_of}
+use Rattle.guard_spec.specs.SettingsFile.{name_of}
 use Rattle.toml.specs.View.{view}
 use Rattle.settings.proofs.words.names.Given as goal
 

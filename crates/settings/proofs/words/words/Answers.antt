@@ -1,6 +1,6 @@
 use Rattle.std.proofs.Common.{◌≡◌, Some, map, sym, ◌∙◌, ap, option_map, arith}
 use Rattle.std.proofs.lemmas.List.{map-append}
-use Rattle.netlist_spec.specs.SettingsFile.{word_of}
+use Rattle.guard_spec.specs.SettingsFile.{word_of}
 use Rattle.toml.specs.View.{view}
 use Rattle.settings.specs.Types.{names_in}
 use Rattle.settings.proofs.Gives.{values_none, values_more, values_all}

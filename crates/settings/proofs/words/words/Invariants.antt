@@ -1,6 +1,6 @@
 use Rattle.std.proofs.Common.{◌≡◌, take, map, Some}
 use Rattle.netlist_spec.specs.Digits.{each_gives}
-use Rattle.netlist_spec.specs.SettingsFile.{word_of}
+use Rattle.guard_spec.specs.SettingsFile.{word_of}
 use Rattle.toml.specs.View.{view}
 use Rattle.settings.specs.Types.{names_in}
 use Rattle.settings.proofs.words.words.Given as goal

@@ -1,11 +1,11 @@
 use Rattle.std.proofs.Common.{ℕ, get_or, [], ◌∷◌, true, false, refl, arith}
-use Rattle.netlist_spec.specs.Codes.{detect}
+use Rattle.guard_spec.specs.Codes.{detect}
 use Rattle.spec_examples.specs.Toggle.{toggle, toggle_guard}
 use Rattle.spec_examples.specs.Examples.{parity_code, inverter_layout}
 use Rattle.spec_examples.proofs.Toggle.{toggle_coded, toggle_separate, toggle_have, toggle_built, toggle_tells}
 use Rattle.containment.proofs.AllCycles.{quiet_run, codewords_are_not_bad, detected}
 use Rattle.containment.proofs.Blamed.{steady_blame}
-use Rattle.netlist_spec.specs.Rails.{SomeNoCodeword}
+use Rattle.guard_spec.specs.Rails.{SomeNoCodeword}
 use Rattle.spec_examples.proofs.InverterGuard.{toggle_is_named}
 use Rattle.spec_examples.proofs.guards.small_guard_detects.Goals as goal
 

@@ -1,6 +1,6 @@
 use Rattle.std.proofs.Common.{sym, subst, ℕ, ◌^◌, ◌<◌, ◌≤◌, length}
 use Rattle.std.proofs.lemmas.List.{length-map}
-use Rattle.netlist_spec.specs.Codes.{Code, data_places, bits_of}
+use Rattle.guard_spec.specs.Codes.{Code, data_places, bits_of}
 use Rattle.block_code.proofs.Shapes.{is_code, All_take, sum_is_checks}
 use Rattle.block_code.proofs.code.Code.check_bits.Goals as goal
 

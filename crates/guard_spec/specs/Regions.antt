@@ -1,14 +1,9 @@
 -- A guarded machine of gates: its regions, and the one bit of each cell.
 use Rattle.std.specs.Prelude.{◌≡◌, ℕ, suc, ◌+◌, ◌<◌, ◌≤◌, ◌⊎◌, Bool, List, length, map, Some, slice_get, IsTrue, Contains, AllPairs}
 use Rattle.std.specs.List.{AllByRecursion}
-use Rattle.netlist_spec.specs.Gates.{GateList, Machine, ForcedNets, latch_nets, ReadsNet}
+use Rattle.netlist_spec.specs.Gates.{Machine, ForcedNets, latch_nets, ReadsNet}
 use Rattle.netlist_spec.specs.CellBits.{Bit, latch_bit, output_bit, stands_before}
-
--- A range of gates that belongs to one bit and ends with that bit's own cell.
-pub record Region : Type 0 where
-  pub bit : Bit
-  pub first : ℕ
-  pub end : ℕ
+use Rattle.netlist_spec.specs.GateRanges.{Region, LiesIn, LeadsToEnd}
 
 -- A guarded machine. Its outputs include the check outputs and the rails, which stand last.
 pub record Guarded : Type 0 where
@@ -48,10 +43,6 @@ pub record HaveOwnNets (g : Guarded) (source : Machine) : Type 0 where
 
 -- ---- what regions read
 
--- Net n lies in the region.
-abbrev pub LiesIn : Region → ℕ → Type 0
-LiesIn r n = (r.first ≤ n) × (n < r.end)
-
 -- The rails are the last outputs.
 abbrev pub IsRailBit : Guarded → Bit → Type 0
 IsRailBit g (latch_bit i) = ⊥
@@ -60,11 +51,6 @@ IsRailBit g (output_bit i) = length g.machine.outputs ≤ i + g.rails
 -- The region may read net k: a leaf, a gate of its own, or, if it is a rail's, an output net.
 abbrev pub MayRead : Guarded → Region → ℕ → Type 0
 MayRead g r k = (k < g.machine.net.leaves) ⊎ (LiesIn r k ⊎ (IsRailBit g r.bit × Contains g.machine.outputs k))
-
--- The region's last gate is n, or reads it through gates of the region.
-pub data LeadsToEnd (net : GateList) (r : Region) : ℕ → Type 0 where
-  is_end : {n : ℕ} → r.end ≡ suc n → LeadsToEnd net r n
-  is_read : {n k : ℕ} → LiesIn r k → ReadsNet net k n → LeadsToEnd net r k → LeadsToEnd net r n
 
 -- No region reads a gate of another one, but rails read output nets. Each gate of a region leads to its last gate. The
 -- regions follow each other in the order of their bits: latch places, and then outputs, by number.

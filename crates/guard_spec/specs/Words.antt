@@ -6,7 +6,7 @@ use Rattle.netlist_spec.specs.Netlist.{Name, stands_in, Model}
 use Rattle.netlist_spec.specs.Covers.{Library}
 use Rattle.netlist_spec.specs.Models.{latch_outputs, output_nets}
 use Rattle.netlist_spec.specs.SourceRun.{Bits}
-use Rattle.netlist_spec.specs.Codes.{Code, data_places, encoded, Mode}
+use Rattle.guard_spec.specs.Codes.{Code, data_places, encoded, Mode}
 
 -- what a settings file stands for
 pub record Settings : Type 0 where

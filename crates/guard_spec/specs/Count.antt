@@ -3,10 +3,10 @@ use Rattle.std.specs.Prelude.{◌≡◌, ℕ, ◌+◌, ◌<◌, ◌≤◌, Bool,
 use Rattle.std.specs.List.{flat_map}
 use Rattle.netlist_spec.specs.SourceRun.{Bits}
 use Rattle.netlist_spec.specs.Gates.{Machine, ForcedNets, GateValues, GateStep, latch_nets}
-use Rattle.netlist_spec.specs.Codes.{Code, Mode, detect, correct, encoded, checks_of, apart}
-use Rattle.netlist_spec.specs.Words.{Words, Layout, bits_at, codewords}
+use Rattle.guard_spec.specs.Codes.{Code, Mode, detect, correct, encoded, checks_of, apart}
+use Rattle.guard_spec.specs.Words.{Words, Layout, bits_at, codewords}
 use Rattle.netlist_spec.specs.CellBits.{latch_bit, output_bit}
-use Rattle.netlist_spec.specs.Regions.{Guarded, IsUntouched}
+use Rattle.guard_spec.specs.Regions.{Guarded, IsUntouched}
 
 -- the outputs that a guard ought to have, without the rails: the source's, and then the check bits by word
 abbrev pub right_outputs : Code → Layout → Bits → Bits

@@ -1,15 +1,14 @@
 -- The plain size of a guard, in cells.
-use Rattle.std.specs.Prelude.{◌≡◌, ℕ, zero, suc, ◌+◌, ◌*◌, ◌↔◌, Bool, false, List, [], ◌∷◌, length, map, take, Some, slice_get, slice_index_or, sum_by, IsTrue, Contains, if◌then◌else◌}
+use Rattle.std.specs.Prelude.{◌≡◌, ℕ, zero, suc, ◌+◌, ◌*◌, Bool, false, List, length, map, take, Some, slice_get, slice_index_or, sum_by, Contains, if◌then◌else◌}
 use Rattle.std.specs.List.{AllZip, range_with_len, zip}
-use Rattle.netlist_spec.specs.Netlist.{Name, stands_in, Statement, Model, File}
+use Rattle.netlist_spec.specs.Netlist.{Model, File}
 use Rattle.netlist_spec.specs.Covers.{Library}
-use Rattle.netlist_spec.specs.Models.{latch_outputs, latch_inputs, output_nets}
+use Rattle.netlist_spec.specs.Models.{latch_inputs, output_nets}
 use Rattle.netlist_spec.specs.SourceRun.{Bits}
-use Rattle.netlist_spec.specs.Size.{cost_of}
-use Rattle.netlist_spec.specs.Sound.{combines, drives, ReadsFor}
-use Rattle.netlist_spec.specs.Codes.{Code, weight, Mode, detect, correct, rail_count}
-use Rattle.netlist_spec.specs.Words.{Words, Layout}
-use Rattle.netlist_spec.specs.Gates.{Machine, ReadsNet}
+use Rattle.guard_spec.specs.Codes.{Code, weight, Mode, detect, correct, rail_count}
+use Rattle.guard_spec.specs.Words.{Words, Layout}
+use Rattle.netlist_spec.specs.Gates.{Machine}
+use Rattle.netlist_spec.specs.Cones.{marked_sum, AreMarked, ConeCostOf, RestsOnLatch, IsGateReached, GateConeCost}
 
 -- the binomial coefficient of n over i
 abbrev pub choose : ℕ → ℕ → ℕ
@@ -40,16 +39,6 @@ word_cost code costs = sum_by (λ n. n) costs + sum_by (column_cost code costs) 
 -- the cost of a rail over all words
 abbrev pub rail_cost : Code → Layout → ℕ
 rail_cost code l = 1 + sum_by (λ w. ones code (length w) + 2 * code.columns) l.state + sum_by (λ w. ones code (length w) + 2 * code.columns) l.output
-
--- the sum over the marked elements
-abbrev pub marked_sum : {A : Type 0} → (A → ℕ) → List A → List Bool → ℕ
-marked_sum f [] marks = 0
-marked_sum f (x ∷ xs) [] = 0
-marked_sum f (x ∷ xs) (mark ∷ marks) = (if mark then f x else 0) + marked_sum f xs marks
-
--- exactly the elements that have the property are marked
-abbrev pub AreMarked : {A : Type 0} → (A → Type 0) → List A → List Bool → Type 0
-AreMarked P xs marks = AllZip (λ x mark. IsTrue mark ↔ P x) xs marks
 
 -- the nets of a word
 abbrev pub AreNets : {X : Type 0} → List X → List ℕ → List X → Type 0
@@ -91,27 +80,6 @@ module _ {X : Type 0} (ConeCost : X → ℕ → Type 0) (RestsOn : X → ℕ →
     pub is_output_cost : WordsCost l outs l.output output_cost
     pub total : n ≡ sum_by (λ w. length w + code.columns) l.state + state_cost + output_cost + rails * rail_cost code l
 
--- A net of the main model is reached from x if it is x, or is read by the driver of a net that is reached.
--- Latches, inputs and clocks read nothing, so they end the way.
-pub data IsReached (file : File) (library : Library) (m : Model) (x : Name) : Name → Type 0 where
-  itself : IsReached file library m x x
-  behind : {n k : Name} → IsReached file library m x n → ReadsFor file library m n k → IsReached file library m x k
-
--- The cone of a net: the `.names` and `.subckt` of the main model that drive it, or drive a net that a member
--- of the cone reads.
-abbrev pub IsInCone : File → Library → Model → Name → Statement → Type 0
-IsInCone file library m x s =
-    IsTrue (combines s) × (n : Name) × IsTrue (stands_in n (drives file library s)) × IsReached file library m x n
-
--- what the statements of the cone cost, each once
-abbrev pub ConeCostOf : File → Library → Model → Name → ℕ → Type 0
-ConeCostOf file library m x n =
-    (marks : List Bool) × AreMarked (IsInCone file library m x) (map (λ s. s.what) m.statements) marks
-    × (n ≡ marked_sum (cost_of file library) (map (λ s. s.what) m.statements) marks)
-
-abbrev pub RestsOnLatch : File → Library → Model → Name → ℕ → Type 0
-RestsOnLatch file library m x i = (q : Name) × (slice_get (latch_outputs m) i ≡ Some q) × IsReached file library m x q
-
 -- The size of a guard for a source that reads its state within a radius and has so many rails.
 abbrev pub IsSizeWith : File → Library → Model → Code → Mode → (radius rails : ℕ) → Layout → ℕ → Type 0
 IsSizeWith file library m code mode radius rails l n =
@@ -120,16 +88,6 @@ IsSizeWith file library m code mode radius rails l n =
 -- The plain size of a guard for a source, where the bound is t.
 abbrev pub IsPlain : File → Library → Model → Code → Mode → ℕ → Layout → ℕ → Type 0
 IsPlain file library m code mode t l n = IsSizeWith file library m code mode t (rail_count mode t) l n
-
--- The same for a machine of gates: a cone costs the number of its gates.
-pub data IsGateReached (m : Machine) (x : ℕ) : ℕ → Type 0 where
-  same_net : IsGateReached m x x
-  read_by : {n k : ℕ} → IsGateReached m x n → ReadsNet m.net n k → IsGateReached m x k
-
-abbrev pub GateConeCost : Machine → ℕ → ℕ → Type 0
-GateConeCost m x n =
-    (marks : List Bool) × AreMarked (λ i. IsGateReached m x (m.net.leaves + i)) (range_with_len 0 (length m.net.gates)) marks
-    × (n ≡ marked_sum (λ i. 1) (range_with_len 0 (length m.net.gates)) marks)
 
 abbrev pub IsMachineSizeWith : Machine → Code → Mode → (radius rails : ℕ) → Layout → ℕ → Type 0
 IsMachineSizeWith m code mode radius rails l n =

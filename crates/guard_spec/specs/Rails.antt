@@ -7,10 +7,10 @@ use Rattle.netlist_spec.specs.Fits.{Valuation}
 use Rattle.netlist_spec.specs.SourceRun.{Bits}
 use Rattle.netlist_spec.specs.Values.{Forced, Values}
 use Rattle.netlist_spec.specs.Gates.{ForcedNets, GateValues, latch_nets}
-use Rattle.netlist_spec.specs.Codes.{Code, IsCodeword, IsFar}
-use Rattle.netlist_spec.specs.Words.{Words, Layout, output_word}
+use Rattle.guard_spec.specs.Codes.{Code, IsCodeword, IsFar}
+use Rattle.guard_spec.specs.Words.{Words, Layout, output_word}
 use Rattle.netlist_spec.specs.CellBits.{Bit, output_bit, IsBitOf, IsCell, cells_of}
-use Rattle.netlist_spec.specs.Regions.{Guarded, IsUntouched}
+use Rattle.guard_spec.specs.Regions.{Guarded, IsUntouched}
 
 -- What holds of some state word as the latches show it. The first word begins behind `at` places.
 abbrev pub SomeStateWord : Code → (List ℕ → Bits → Type 0) → Words → Bits → ℕ → Type 0

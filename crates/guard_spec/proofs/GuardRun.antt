@@ -16,9 +16,9 @@ use Rattle.netlist_spec.specs.Sound.{IsSound, is_clocked}
 use Rattle.netlist_spec.specs.Models.{same_clocking, first_clocking, is_declared}
 use Rattle.netlist_spec.specs.Runs.{Fault, Run}
 use Rattle.netlist_spec.specs.Ordered.{IsOrdered}
-use Rattle.netlist_spec.specs.Codes.{Code, encoded, checks_of}
-use Rattle.netlist_spec.specs.Words.{Settings, Words, Layout, AreWords, all_numbers, bits_at}
-use Rattle.netlist_spec.specs.Shaped.{latch_for, latches_for, guard_latches, HasShape, IsShapedBy}
+use Rattle.guard_spec.specs.Codes.{Code, encoded, checks_of}
+use Rattle.guard_spec.specs.Words.{Settings, Words, Layout, AreWords, all_numbers, bits_at}
+use Rattle.guard_spec.specs.Shaped.{latch_for, latches_for, guard_latches, HasShape, IsShapedBy}
 use Rattle.netlist_spec.proofs.SomeRun.{IsWide, some_run}
 
 second : (a b : Bool) → (a && b) ≡ true → b ≡ true

@@ -6,9 +6,9 @@ use Rattle.netlist_spec.specs.Placed.{port_names}
 use Rattle.netlist_spec.specs.Models.{main_model, Latch, latches_of, latch_inputs, first_clocking, init_bits}
 use Rattle.netlist_spec.specs.WrittenForm.{HasWrittenForm}
 use Rattle.netlist_spec.specs.SourceRun.{Bits}
-use Rattle.netlist_spec.specs.Codes.{Code, encoded, rail_count}
-use Rattle.netlist_spec.specs.Words.{Settings, Words, Layout, IsLayout, bits_at}
-use Rattle.netlist_spec.specs.Plain.{IsSizeWith}
+use Rattle.guard_spec.specs.Codes.{Code, encoded, rail_count}
+use Rattle.guard_spec.specs.Words.{Settings, Words, Layout, IsLayout, bits_at}
+use Rattle.guard_spec.specs.Plain.{IsSizeWith}
 use Rattle.netlist_spec.specs.CellBits.{Bit, stands_before, IsBitOf, cells_of}
 use Rattle.netlist_spec.specs.GuardNames.{store_name, next_name, check_name, rail_name}
 

@@ -9,9 +9,9 @@ use Rattle.netlist_spec.specs.SourceRun.{Bits, Stream, SourceRun}
 use Rattle.netlist_spec.specs.Gates.{Machine, GateRun}
 use Rattle.netlist_spec.specs.Ordered.{cell_nets}
 use Rattle.netlist_spec.specs.Runs.{Fault, Run}
-use Rattle.netlist_spec.specs.Codes.{Code, Mode, detect, correct, encoded, apart}
-use Rattle.netlist_spec.specs.Words.{Settings, Layout, bits_at, output_word}
-use Rattle.netlist_spec.specs.Contained.{at_cycle, is_alarmed}
+use Rattle.guard_spec.specs.Codes.{Code, Mode, detect, correct, encoded, apart}
+use Rattle.guard_spec.specs.Words.{Settings, Layout, bits_at, output_word}
+use Rattle.guard_spec.specs.Contained.{at_cycle, is_alarmed}
 
 pub data Outcome : Type 0 where
   right : Outcome

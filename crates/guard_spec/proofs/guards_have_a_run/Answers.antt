@@ -1,5 +1,5 @@
-use Rattle.netlist_spec.proofs.GuardRun.{guard_runs}
-use Rattle.netlist_spec.proofs.guards_have_a_run.Goals as goal
+use Rattle.guard_spec.proofs.GuardRun.{guard_runs}
+use Rattle.guard_spec.proofs.guards_have_a_run.Goals as goal
 
 pub returns-clause-within : goal.returns-clause-within
 returns-clause-within c = λ g source s guard sound. guard_runs g source s _ _ guard.ordered guard.shaped sound

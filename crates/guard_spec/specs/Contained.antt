@@ -6,8 +6,8 @@ use Rattle.netlist_spec.specs.Covers.{Library}
 use Rattle.netlist_spec.specs.Models.{output_nets}
 use Rattle.netlist_spec.specs.SourceRun.{Bits, Stream, SourceRun}
 use Rattle.netlist_spec.specs.Runs.{Fault, faults_at, is_fault_list, Run, FreeRun}
-use Rattle.netlist_spec.specs.Codes.{Code, encoded, Decodes}
-use Rattle.netlist_spec.specs.Words.{Layout, bits_at, codewords, output_word}
+use Rattle.guard_spec.specs.Codes.{Code, encoded, Decodes}
+use Rattle.guard_spec.specs.Words.{Layout, bits_at, codewords, output_word}
 
 -- the bits of cycle c
 abbrev pub at_cycle : List Bits → ℕ → Bits

@@ -9,8 +9,8 @@ use Rattle.netlist_spec.specs.Digits.{each_gives, bits_of_text}
 use Rattle.netlist_spec.specs.Netlist.{Name, IsName, same_name, stands_in}
 use Rattle.netlist_spec.specs.Covers.{Linear, NamedTable, NamedLinear, IsLibrary, empty_library, number_of}
 use Rattle.netlist_spec.specs.SourceRun.{Bits}
-use Rattle.netlist_spec.specs.Codes.{Code, IsCode, data_places, Mode, detect, correct}
-use Rattle.netlist_spec.specs.Words.{Settings}
+use Rattle.guard_spec.specs.Codes.{Code, IsCode, data_places, Mode, detect, correct}
+use Rattle.guard_spec.specs.Words.{Settings}
 
 -- A key is written as a path, such as `sbox.present.values`.
 pub data SettingsFault : Type 0 where

@@ -5,14 +5,14 @@ use Rattle.netlist_spec.specs.Covers.{Library}
 use Rattle.netlist_spec.specs.Models.{output_nets}
 use Rattle.netlist_spec.specs.SourceRun.{Bits}
 use Rattle.netlist_spec.specs.Runs.{IsSteady}
-use Rattle.netlist_spec.specs.Codes.{Code, correct}
-use Rattle.netlist_spec.specs.Words.{Settings, Layout}
-use Rattle.netlist_spec.specs.Plain.{ones, pattern_count, IsPlain}
+use Rattle.guard_spec.specs.Codes.{Code, correct}
+use Rattle.guard_spec.specs.Words.{Settings, Layout}
+use Rattle.guard_spec.specs.Plain.{ones, pattern_count, IsPlain}
 use Rattle.netlist_spec.specs.Ordered.{IsOrdered}
 use Rattle.netlist_spec.specs.CellBits.{IsIndependent}
-use Rattle.netlist_spec.specs.Shaped.{IsShapedBy}
-use Rattle.netlist_spec.specs.Rails.{IsFarWord, RailsTellIn}
-use Rattle.netlist_spec.specs.Contained.{at_cycle, DecodesAt, IsUpBy, UnderFaults, IsFaithful}
+use Rattle.guard_spec.specs.Shaped.{IsShapedBy}
+use Rattle.guard_spec.specs.Rails.{IsFarWord, RailsTellIn}
+use Rattle.guard_spec.specs.Contained.{at_cycle, DecodesAt, IsUpBy, UnderFaults, IsFaithful}
 
 -- the distance that a guard needs which corrects t faulty cells and tells of s
 abbrev pub dual_distance : ℕ → ℕ → ℕ

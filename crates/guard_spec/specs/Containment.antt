@@ -1,13 +1,13 @@
 -- A guard of a source: what it is, what it gives without faults, and what it contains.
 use Rattle.std.specs.Prelude.{ℕ, List}
 use Rattle.netlist_spec.specs.Netlist.{Model, File}
-use Rattle.netlist_spec.specs.Codes.{Mode, detect, correct}
-use Rattle.netlist_spec.specs.Words.{Settings, Layout}
+use Rattle.guard_spec.specs.Codes.{Mode, detect, correct}
+use Rattle.guard_spec.specs.Words.{Settings, Layout}
 use Rattle.netlist_spec.specs.Runs.{Fault, IsWithin}
 use Rattle.netlist_spec.specs.Ordered.{IsOrdered}
 use Rattle.netlist_spec.specs.CellBits.{IsIndependent}
-use Rattle.netlist_spec.specs.Shaped.{IsShapedWithin}
-use Rattle.netlist_spec.specs.Contained.{IsFaithful, Detects, Corrects}
+use Rattle.guard_spec.specs.Shaped.{IsShapedWithin}
+use Rattle.guard_spec.specs.Contained.{IsFaithful, Detects, Corrects}
 
 -- Under every fault list that is allowed the guard detects, or it corrects.
 abbrev pub ContainsFaults : Mode → File → File → Settings → Model → Layout → (List Fault → Type 0) → Type 0

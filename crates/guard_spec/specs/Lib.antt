@@ -1,0 +1,12 @@
+pub mod Codes
+pub mod Words
+pub mod Plain
+pub mod SettingsFile
+pub mod Shaped
+pub mod Contained
+pub mod Containment
+pub mod Regions
+pub mod Rails
+pub mod Count
+pub mod Dual
+pub mod Tally
