@@ -11,8 +11,6 @@ mod reader;
 mod row;
 mod statement;
 mod summary;
-#[cfg(test)]
-mod tests;
 mod words;
 
 pub use fault::BlifFault;

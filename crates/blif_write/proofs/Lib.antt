@@ -1,6 +1,4 @@
-pub mod EachKindLemmas
 pub mod FileLemmas
-pub mod InverterLemmas
 pub mod LabelNames
 pub mod NamedFaults
 pub mod NamedFiles

@@ -10,8 +10,6 @@ mod named;
 mod numbers;
 mod refusal;
 mod rows;
-#[cfg(test)]
-mod tests;
 mod text;
 
 pub use file::as_file;

@@ -4,7 +4,6 @@ pub mod FlatNamed
 pub mod FlatSteps
 pub mod FlatLabels
 pub mod FlatIsFlat
-pub mod SmallSources
 pub mod ItemLemmas
 pub mod MarkLemmas
 pub mod OrderLaw

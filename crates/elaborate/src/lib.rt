@@ -13,12 +13,6 @@ mod names;
 mod nets;
 mod order;
 mod ready;
-#[cfg(test)]
-mod ready_tests;
-#[cfg(test)]
-mod source_tests;
-#[cfg(test)]
-mod tests;
 
 pub use elaborated::Elaborated;
 pub use flat_nets::{FlatNets, flat};

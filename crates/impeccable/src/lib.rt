@@ -14,6 +14,3 @@ mod stop;
 
 pub use outcome::{Outcome, Refusal};
 pub use program::run;
-
-#[cfg(test)]
-mod tests;

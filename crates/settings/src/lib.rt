@@ -15,6 +15,3 @@ use imp_text::{Name, Text};
 pub use reader::read;
 pub use strong::{TooSmall, strength};
 pub use types::{Mode, Settings};
-
-#[cfg(test)]
-mod tests;

@@ -2,8 +2,8 @@
 ghost use Rattle.std.specs.Prelude.{◌≡◌, [], ◌∷◌, IfOk};
 ghost use Rattle.imp_io.specs.MemSink.{HasDistinctNumbers};
 
-use super::*;
 use blif_read::{Clocking, File};
+use blif_write::{Label, Named, WriteRefusal, as_file, write};
 use gate_net::{Gate, GateNet, LatchRow, NetId, Op};
 use imp_io::MemSink;
 use imp_text::{Name, NameId, Names};

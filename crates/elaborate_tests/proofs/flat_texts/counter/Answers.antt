@@ -4,8 +4,8 @@ use Rattle.imp_text.specs.declared.names.NameId.{NameId}
 use Rattle.netlist_spec.specs.Netlist.{Name}
 use Rattle.netlist_spec.specs.Elaborated.{HasElaboratedForm}
 use Rattle.blif_read.proofs.SpelledLemmas.{number-later}
-use Rattle.elaborate.proofs.SmallSources.{same_source, names_of, ids_of, no_ids, bit_names, counter_form}
-use Rattle.elaborate.proofs.tests.counter.Goals as goal
+use Rattle.elaborate_tests.proofs.SmallSources.{same_source, names_of, ids_of, no_ids, bit_names, counter_form}
+use Rattle.elaborate_tests.proofs.flat_texts.counter.Goals as goal
 
 pub invariant_of-result : goal.invariant_of-result
 invariant_of-result c =

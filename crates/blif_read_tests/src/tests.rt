@@ -1,7 +1,4 @@
-use super::*;
-use crate::line::Line;
-use crate::row::{read_last, read_row};
-use crate::statement::{add_ports, read_statement};
+use blif_read::{BlifFault, Clocking, NameId, Port, Row, Statement, What, read};
 use std::alloc::{AllocError, Global};
 use std::test::Fail;
 
@@ -150,101 +147,6 @@ fn the_first_fault_is_told(rt: HostRuntime) -> Result<(), Fail> {
     Ok(())
 }
 
-#[test]
-fn a_cover_is_read(rt: HostRuntime) -> Result<(), Fail> {
-    let mut names = Names::new(rt.alloc());
-    let words = [
-        b".names".as_slice(),
-        b"a".as_slice(),
-        b"NIL".as_slice(),
-        b"a".as_slice(),
-    ];
-    let read = read_statement(rt.alloc(), &Line::new(1, &words), &mut names)?;
-    let Some(Statement::Names { ins, out, cover }) = read else {
-        panic!(rt; "it is a cover");
-    };
-    // `NIL` is a name like others where no control stands
-    assert_eq!(rt; ins.as_slice(), [NameId(0), NameId(1)].as_slice());
-    assert_eq!(rt; out, NameId(0));
-    assert!(rt; cover.on && cover.rows.is_empty());
-    assert_eq!(rt; names.len(), 2);
-    Ok(())
-}
-
-#[test]
-fn a_latch_is_read(rt: HostRuntime) -> Result<(), Fail> {
-    let mut names = Names::new(rt.alloc());
-    let words = [
-        b".latch".as_slice(),
-        b"d".as_slice(),
-        b"q".as_slice(),
-        b"re".as_slice(),
-        b"NIL".as_slice(),
-        b"2".as_slice(),
-    ];
-    let read = read_statement(rt.alloc(), &Line::new(1, &words), &mut names)?;
-    let Some(
-        Statement::Latch {
-            d,
-            q,
-            clocking: Clocking::Edge { rising, control },
-            init,
-        },
-    ) = read
-    else {
-        panic!(rt; "it is a latch with an edge");
-    };
-    assert_eq!(rt; (d, q), (NameId(0), NameId(1)));
-    assert!(rt; rising && control.is_none());
-    assert_eq!(rt; init, Some(2));
-    assert_eq!(rt; names.len(), 2);
-    Ok(())
-}
-
-#[test]
-fn a_placed_model_is_read(rt: HostRuntime) -> Result<(), Fail> {
-    let mut names = Names::new(rt.alloc());
-    let words = [b".subckt".as_slice(), b"m".as_slice(), b"a=b=c".as_slice()];
-    let read = read_statement(rt.alloc(), &Line::new(1, &words), &mut names)?;
-    let Some(Statement::Subckt { model, binds }) = read else {
-        panic!(rt; "it places a model");
-    };
-    assert_eq!(rt; model.bytes(), b"m".as_slice());
-    assert_eq!(rt; binds.len(), 1);
-    assert_eq!(rt; binds[0].formal.bytes(), b"a".as_slice());
-    assert_eq!(rt; names.find(b"b=c"), Some(binds[0].actual));
-    Ok(())
-}
-
-#[test]
-fn ports_are_added(rt: HostRuntime) -> Result<(), Fail> {
-    let mut names = Names::new(rt.alloc());
-    let mut ports = Vec::new(rt.alloc());
-    let words = [
-        b".inputs".as_slice(),
-        b"b".as_slice(),
-        b"a".as_slice(),
-        b"b".as_slice(),
-    ];
-    add_ports(&Line::new(7, &words), &mut names, &mut ports)?;
-    assert_eq!(rt; ports.len(), 3);
-    assert_eq!(rt; (ports[1].name, ports[1].line), (NameId(1), 7));
-    assert_eq!(rt; ports[2].name, ports[0].name);
-    Ok(())
-}
-
-#[test]
-fn a_row_is_read(rt: HostRuntime) -> Result<(), Fail> {
-    let words = [b"1-0".as_slice(), b"0".as_slice()];
-    let row = Row { care: 5, value: 1 };
-    assert_eq!(rt; read_row(&words), row);
-    assert!(rt; !read_last(&words));
-    let words = [b"1".as_slice()];
-    assert_eq!(rt; read_row(&words), Row { care: 0, value: 0 });
-    assert!(rt; read_last(&words));
-    Ok(())
-}
-
 // The names and the lines of some ports.
 fn places(alloc: Global, ports: &[Port]) -> Result<Vec<(NameId, u32)>, AllocError> {
     let mut places = Vec::new(alloc);
@@ -252,6 +154,69 @@ fn places(alloc: Global, ports: &[Port]) -> Result<Vec<(NameId, u32)>, AllocErro
         places.push((port.name, port.line))?;
     }
     Ok(places)
+}
+
+// A port that comes again, `NIL` as a net like others where no control stands, a row with a dash, a latch without a
+// control, and a port word with two `=`.
+#[test]
+fn statements_are_read(rt: HostRuntime) -> Result<(), Fail> {
+    let text =
+        b".model m\n.inputs b a b\n.names a NIL a\n.names a b c y\n1-0 0\n.names z\n1\n.latch d q re NIL 2\n.subckt s a=b=c\n";
+    let Ok(file) = read(rt.alloc(), text) else {
+        panic!(rt; "it says a file");
+    };
+    assert_eq!(rt; file.models.len(), 1);
+    let model = &file.models[0];
+    assert_eq!(rt; model.names.len(), 9);
+    let inputs = places(rt.alloc(), &model.inputs)?;
+    let (b, a) = (NameId(0), NameId(1));
+    assert_eq!(rt; inputs.as_slice(), [(b, 2), (a, 2), (b, 2)].as_slice());
+    assert_eq!(rt; model.statements.len(), 5);
+    let Statement::Names { ins, out, cover } = &model.statements[0].what else {
+        panic!(rt; "it is a cover");
+    };
+    assert_eq!(rt; ins.as_slice(), [a, NameId(2)].as_slice());
+    assert_eq!(rt; *out, a);
+    assert!(rt; cover.on && cover.rows.is_empty());
+    let Statement::Names { cover, .. } = &model.statements[1].what else {
+        panic!(rt; "it is a cover");
+    };
+    let row = Row { care: 5, value: 1 };
+    assert_eq!(rt; cover.rows.as_slice(), [row].as_slice());
+    assert!(rt; !cover.on);
+    let Statement::Names { cover, .. } = &model.statements[2].what else {
+        panic!(rt; "it is a cover");
+    };
+    let row = Row { care: 0, value: 0 };
+    assert_eq!(rt; cover.rows.as_slice(), [row].as_slice());
+    assert!(rt; cover.on);
+    let Statement::Latch {
+        d,
+        q,
+        clocking,
+        init,
+    } = &model.statements[3].what
+    else {
+        panic!(rt; "it is a latch");
+    };
+    assert_eq!(rt; (*d, *q), (NameId(6), NameId(7)));
+    assert_eq!(rt; *init, Some(2));
+    let Clocking::Edge { rising, control } = *clocking else {
+        panic!(rt; "it has an edge");
+    };
+    assert!(rt; rising && control.is_none());
+    let Statement::Subckt {
+        model: placed,
+        binds,
+    } = &model.statements[4].what
+    else {
+        panic!(rt; "it places a model");
+    };
+    assert_eq!(rt; placed.bytes(), b"s".as_slice());
+    assert_eq!(rt; binds.len(), 1);
+    assert_eq!(rt; binds[0].formal.bytes(), b"a".as_slice());
+    assert_eq!(rt; model.names.find(b"b=c"), Some(binds[0].actual));
+    Ok(())
 }
 
 #[test]

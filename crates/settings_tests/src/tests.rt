@@ -1,4 +1,4 @@
-use crate::{Mode, SetFault, TooSmall, read, strength};
+use settings::{Mode, SetFault, TooSmall, read, strength};
 use std::test::Fail;
 
 fn code_name(fault: &SetFault) -> &'static str {

@@ -4,9 +4,9 @@ ghost use Rattle.netlist_spec.specs.Gates.{one, two};
 ghost use Rattle.gate_net.specs.Gate.{gate_form};
 ghost use Rattle.imp_io.specs.MemSink.{HasDistinctNumbers};
 
-use super::*;
 use blif_read::Clocking;
 use blif_write::write;
+use elaborate::{Elaborated, flat, name_flat};
 use gate_net::{Gate, GateNet, LatchRow, Machine, NetId, Op};
 use imp_io::MemSink;
 use imp_text::{Name, Names};

@@ -1,95 +1,9 @@
-// Covers and the gates that they become, latches with unknown inits, and machines of sources.
-use crate::cover::gate_of_cover;
-use crate::names::unknown_inits;
-use crate::{Elaborated, elaborate_ready, is_flat_ready};
-use blif_read::{Clocking, Cover, Located, NameId, Row, Statement, read};
+// Machines of sources: their gates, their unknown inits, and their runs.
+use blif_read::read;
+use elaborate::{Elaborated, elaborate_ready, is_flat_ready};
 use gate_net::{Gate, NetId, Op};
 use std::alloc::{AllocError, Global};
 use std::test::Fail;
-
-fn cover(alloc: Global, on: bool, rows: &[Row]) -> Result<Cover, AllocError> {
-    Ok(Cover {
-        on,
-        rows: rows.to_vec(alloc)?,
-    })
-}
-
-fn row(care: u16, value: u16) -> Row {
-    Row { care, value }
-}
-
-#[test]
-fn covers_become_gates(rt: HostRuntime) -> Result<(), Fail> {
-    let alloc = rt.alloc();
-    let (a, b) = (NetId(3), NetId(5));
-    let c = cover(alloc, true, &[row(0, 0)])?;
-    assert_eq!(rt; gate_of_cover(&c, &[]), Gate::Const(true));
-    assert_eq!(rt; gate_of_cover(&c, &[a]), Gate::Const(true));
-    let c = cover(alloc, true, &[])?;
-    assert_eq!(rt; gate_of_cover(&c, &[]), Gate::Const(false));
-    assert_eq!(rt;
-        gate_of_cover(&c, &[a, b]),
-        Gate::Two {
-            op: Op(0b0000),
-            a,
-            b
-        }
-    );
-    let c = cover(alloc, true, &[row(1, 1)])?;
-    assert_eq!(rt; gate_of_cover(&c, &[a]), Gate::One { inv: false, a });
-    assert_eq!(rt;
-        gate_of_cover(&c, &[a, b]),
-        Gate::Two {
-            op: Op(0b1100),
-            a,
-            b
-        }
-    );
-    let c = cover(alloc, true, &[row(1, 0)])?;
-    assert_eq!(rt; gate_of_cover(&c, &[a]), Gate::One { inv: true, a });
-    let c = cover(alloc, false, &[row(3, 0)])?;
-    assert_eq!(rt;
-        gate_of_cover(&c, &[a, b]),
-        Gate::Two {
-            op: Op(0b1110),
-            a,
-            b
-        }
-    );
-    let c = cover(alloc, false, &[row(2, 2)])?;
-    assert_eq!(rt;
-        gate_of_cover(&c, &[a, b]),
-        Gate::Two {
-            op: Op(0b0101),
-            a,
-            b
-        }
-    );
-    Ok(())
-}
-
-fn latch(init: Option<u8>) -> Located {
-    Located {
-        line: 1,
-        what: Statement::Latch {
-            d: NameId(0),
-            q: NameId(0),
-            clocking: Clocking::Plain,
-            init,
-        },
-    }
-}
-
-#[test]
-fn inits_that_are_unknown_are_counted(rt: HostRuntime) -> Result<(), Fail> {
-    let mut lines = Vec::new(rt.alloc());
-    for init in [None, Some(0), Some(1), Some(2), Some(3)] {
-        lines.push(latch(init))?;
-    }
-    assert!(rt; lines.len() < 10);
-    assert_eq!(rt; unknown_inits(&lines), 3);
-    Ok(())
-}
 
 // The machine of a text, where it is short and says a file that is ready.
 fn machine_of(alloc: Global, text: &[u8]) -> Result<Option<Elaborated>, AllocError> {
@@ -106,6 +20,87 @@ fn machine_of(alloc: Global, text: &[u8]) -> Result<Option<Elaborated>, AllocErr
         }
         Err(_) => Ok(None),
     }
+}
+
+// The first gate of the machine of a text.
+fn first_gate(alloc: Global, text: &[u8]) -> Result<Option<Gate>, AllocError> {
+    let Some(e) = machine_of(alloc, text)? else {
+        return Ok(None);
+    };
+    let net = &e.machine.net;
+    if net.leaves() < net.len() {
+        Ok(Some(net.gate(NetId(net.leaves()))))
+    } else {
+        Ok(None)
+    }
+}
+
+// The gate with that table over the two inputs.
+fn table(op: Op) -> Gate {
+    Gate::Two {
+        op,
+        a: NetId(0),
+        b: NetId(1),
+    }
+}
+
+#[test]
+fn covers_become_gates(rt: HostRuntime) -> Result<(), Fail> {
+    let a = NetId(0);
+    let cases = [
+        (
+            b".model m\n.inputs a b\n.names y\n1\n".as_slice(),
+            Gate::Const(true),
+        ),
+        (
+            b".model m\n.inputs a b\n.names a y\n- 1\n".as_slice(),
+            Gate::Const(true),
+        ),
+        (
+            b".model m\n.inputs a b\n.names y\n".as_slice(),
+            Gate::Const(false),
+        ),
+        (
+            b".model m\n.inputs a b\n.names a b y\n".as_slice(),
+            table(Op(0b0000)),
+        ),
+        (
+            b".model m\n.inputs a b\n.names a y\n1 1\n".as_slice(),
+            Gate::One { inv: false, a },
+        ),
+        (
+            b".model m\n.inputs a b\n.names a b y\n1- 1\n".as_slice(),
+            table(Op(0b1100)),
+        ),
+        (
+            b".model m\n.inputs a b\n.names a y\n0 1\n".as_slice(),
+            Gate::One { inv: true, a },
+        ),
+        (
+            b".model m\n.inputs a b\n.names a b y\n00 0\n".as_slice(),
+            table(Op(0b1110)),
+        ),
+        (
+            b".model m\n.inputs a b\n.names a b y\n-1 0\n".as_slice(),
+            table(Op(0b0101)),
+        ),
+    ];
+    for (text, gate) in cases {
+        let first = first_gate(rt.alloc(), text)?;
+        assert_eq!(rt; first, Some(gate), "at {text:?}");
+    }
+    Ok(())
+}
+
+#[test]
+fn inits_that_are_unknown_are_counted(rt: HostRuntime) -> Result<(), Fail> {
+    let text =
+        b".model m\n.inputs d\n.latch d a\n.latch d b 0\n.latch d c 1\n.latch d e 2\n.latch d f 3\n";
+    let Some(e) = machine_of(rt.alloc(), text)? else {
+        panic!(rt; "it is ready");
+    };
+    assert_eq!(rt; e.unknown_inits, 3);
+    Ok(())
 }
 
 // The outputs in each of six cycles, with the bit as each input.

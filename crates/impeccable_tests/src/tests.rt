@@ -1,9 +1,9 @@
 ghost use Rattle.std.specs.Prelude.{None};
 ghost use Rattle.imp_io.specs.MemSink.{HasDistinctNumbers};
 
-use super::*;
 use blif_read::{Cover, Model, NameId, Statement, read};
 use imp_io::{Files, LoadFault, MemFile, MemFiles, MemSink};
+use impeccable::{Outcome, Refusal, run};
 use std::alloc::{AllocError, Global};
 use std::test::Fail;
 

@@ -1,8 +1,8 @@
 use Rattle.std.proofs.Common.{◌≡◌, [], ◌∷◌, codes, sym, subst, slice_get, Some}
 use Rattle.netlist_spec.specs.Elaborated.{HasElaboratedForm}
 use Rattle.blif_read.proofs.SpelledLemmas.{number-later}
-use Rattle.elaborate.proofs.SmallSources.{same_source, names_of, ids_of, no_ids, inverter_form}
-use Rattle.elaborate.proofs.tests.inverter.Goals as goal
+use Rattle.elaborate_tests.proofs.SmallSources.{same_source, names_of, ids_of, no_ids, inverter_form}
+use Rattle.elaborate_tests.proofs.flat_texts.inverter.Goals as goal
 
 pub invariant_of-result : goal.invariant_of-result
 invariant_of-result c =

@@ -1,0 +1,2 @@
+pub mod EachKindLemmas
+pub mod InverterLemmas

@@ -1,0 +1,5 @@
+//! Tests of `blif_write`, by its public calls.
+#![tactic(auto)]
+
+#[cfg(test)]
+mod tests;
