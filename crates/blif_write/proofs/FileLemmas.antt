@@ -28,9 +28,10 @@ use Rattle.blif_read.specs.View.{name_at, port_of, model_of, clocking_of, cover_
 use Rattle.imp_text.proofs.NamesLemmas.{slice_get-append_left}
 use Rattle.blif_read.specs.Spelled.{with_names, AreNumbers, Spells, SpellsEach}
 use Rattle.blif_write.specs.Numbers.{ports_numbered, latch_of, names_of, latch_with, gate_with, statement_at}
-use Rattle.blif_write.proofs.NamedFiles.{latch_written, gate_written, numbered_latches, numbered_gates, statements-numbered}
+use Rattle.named_netlist.proofs.NamedFiles.{latch_written, gate_written, numbered_latches, numbered_gates, statements-numbered}
 use Rattle.blif_read.proofs.SpelledLemmas.{all_cons, all_end, name-is, names-are, number-later, numbers-later, numbers-within, all-at, with_names-grows, with_names-append, with_names-first}
 use Rattle.blif_write.proofs.NumberLemmas.{ports-named, ports-within}
+use Rattle.named_netlist.proofs.WrittenModel.{model_with}
 
 same_latch : (a a' b b' : Name) (c c' : Clocking) (i i' : ℕ) → a ≡ a' → b ≡ b' → c ≡ c' → i ≡ i' → latch a b c (Some i) ≡ latch a' b' c' (Some i')
 same_latch a a' b b' c c' i i' ea eb ec ei = cc
@@ -327,17 +328,6 @@ later-two n2 n3 n4 c s e3 e4 = e4 ∙ ap (λ (l : List Name). with_names l s) e3
 
 pub later-three : (n1 n2 n3 n4 o c s : List Name) → n2 ≡ with_names n1 o → n3 ≡ with_names n2 c → n4 ≡ with_names n3 s → n4 ≡ with_names n1 (o ++ (c ++ s))
 later-three n1 n2 n3 n4 o c s e2 e3 e4 = later-two n2 n3 n4 c s e3 e4 ∙ ap (λ (l : List Name). with_names l (c ++ s)) e2 ∙ sym (with_names-append n1 o (c ++ s))
-
-abbrev pub model_with : Name → List Name → List Port → List Port → List Port → List Located → Model
-model_with name all inputs outputs clocks statements =
-    record { name = name; line = 2; names = all; inputs = inputs; outputs = outputs; clocks = clocks; statements = statements }
-
--- the model of the file
-abbrev pub written_model : Named → Model
-written_model g =
-    model_with g.model (first_appearances (g.inputs ++ output_names g ++ g.clocks ++ flat_map statement_nets (latch_statements g ++ gate_statements g))) (ports_from 3 g.inputs)
-    (ports_from (3 + length g.inputs) (output_names g)) (ports_from ((3 + length g.inputs) + length g.outputs) g.clocks)
-    (statements_from (((3 + length g.inputs) + length g.outputs) + length g.clocks) (latch_statements g ++ gate_statements g))
 
 pub same-model : (a a' : Name) (b b' : List Name) (i i' o o' c c' : List Port) (s s' : List Located) → a ≡ a' → b ≡ b' → i ≡ i' → o ≡ o' → c ≡ c' → s ≡ s' → model_with a b i o c s ≡ model_with a' b' i' o' c' s'
 same-model a a' b b' i i' o o' c c' s s' ea eb ei eo ec es =

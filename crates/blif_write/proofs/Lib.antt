@@ -1,14 +1,4 @@
 pub mod FileLemmas
-pub mod LabelNames
-pub mod NamedFaults
-pub mod NamedFiles
-pub mod NamedForms
-pub mod NamedLines
-pub mod NamedModels
-pub mod NamedOrder
-pub mod NamedReads
-pub mod NamedRuns
 pub mod NamedTexts
-pub mod NetLemmas
 pub mod NumberLemmas
 pub mod Steps

@@ -10,7 +10,7 @@ use Rattle.netlist_spec.specs.Gates.{GateForm, constant, one, two, LatchRow, gat
 use Rattle.netlist_spec.specs.Text.{line_text, row_cells, cover_lines, latch_said, unknown_line, text_of}
 use Rattle.netlist_spec.specs.Written.{Named, IsNamed, net_name, output_names, ports_from, file_of, latch_statements, gate_statements, statements_from, written_init_of}
 use Rattle.blif_write.specs.Lines.{line_of, lines_of, spaced, latch_text, names_text, row_said, rows_text, gate_text, latches_text, gates_text, named_text}
-use Rattle.blif_write.proofs.NamedFiles.{names-back, latch_at, gate_at, latches-of, gates-of, numbered_latches, numbered_gates}
+use Rattle.named_netlist.proofs.NamedFiles.{names-back, latch_at, gate_at, latches-of, gates-of, numbered_latches, numbered_gates}
 
 -- lines of one name each
 name_lines : (front : List ℕ) (f : Name → Said) → ((n : Name) → line_text (f n) ≡ line_of front n) → (ns : List Name) → flat_map line_text (map f ns) ≡ lines_of front ns

@@ -14,12 +14,12 @@ ghost use Rattle.blif_read.specs.View.{clocking_of, file_of, model_of, statement
 ghost use Rattle.blif_read.specs.Spelled.{Spells, SpellsEach, with_names};
 ghost use Rattle.blif_write.specs.Numbers.{latch_of, model_of_parts, names_of, statement_at};
 
-use crate::Named;
 use crate::cover::cover;
 use crate::numbers::{given_numbers, net_number, net_numbers, ports_from, read_numbers};
 use blif_read::{Clocking, File, Located, Model, Port, Statement};
 use gate_net::{Gate, LatchRow, NetId};
 use imp_text::{Name, Names};
+use named_netlist::Named;
 use std::alloc::{AllocError, Global};
 
 /// The file that the text of the gate list says.

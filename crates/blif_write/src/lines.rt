@@ -11,14 +11,13 @@ ghost use Rattle.blif_read.specs.Ids.{IsIdOf, control_ids};
 ghost use Rattle.blif_read.specs.View.{clocking_of, name_at};
 ghost use Rattle.blif_write.specs.Lines.{gate_text, latch_text, line_of, lines_of, names_text, spaced};
 
-use crate::Named;
-use crate::label::NameText;
 use crate::rows::{char_of, put_rows};
 use blif_read::Clocking;
 use gate_net::{Gate, LatchRow, NetId};
 use imp_io::{Sink, SinkFault};
 use imp_text::{NameId, Names};
 use itoa::Buffer;
+use named_netlist::{NameText, Named};
 
 // A line of a word and a name, which a space separates.
 pub(crate) fn put_line<O: Sink>(front: &[u8], name: &[u8], out: &mut O) -> Result<(), SinkFault>

@@ -11,11 +11,10 @@ ghost use Rattle.blif_read.specs.View.{name_at};
 ghost use Rattle.blif_read.specs.Spelled.{AreNumbers, with_names};
 ghost use Rattle.blif_write.specs.Numbers.{ports_numbered};
 
-use crate::Named;
-use crate::label::NameText;
 use blif_read::Port;
 use gate_net::{Gate, NetId};
 use imp_text::{NameId, Names};
+use named_netlist::{NameText, Named};
 use std::alloc::{AllocError, Global};
 
 // The number of the name of a net.

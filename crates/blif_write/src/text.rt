@@ -7,10 +7,11 @@ ghost use Rattle.netlist_spec.specs.WrittenText.{IsOneReading};
 ghost use Rattle.blif_write.specs.Lines.{gates_text, head_text, latches_text, named_text, ports_text};
 ghost use Rattle.blif_write.specs.Refusals.{put_answer};
 
+use crate::WriteRefusal;
 use crate::lines::{put_gate, put_latch, put_line, put_names, put_nets, put_number};
-use crate::{Named, WriteRefusal};
 use gate_net::NetId;
 use imp_io::{Sink, SinkFault};
+use named_netlist::Named;
 
 /// Appends the text of a gate list: the line on unknown inits, the model, its ports, its latches, and its gates in
 /// order. At a refusal a prefix of it was appended.

@@ -9,9 +9,9 @@ use Rattle.netlist_spec.specs.Written.{Label, given, store, next, check, rail, i
 use Rattle.imp_text.specs.declared.names.NameId.{NameId}
 use Rattle.blif_read.specs.Ids.{IsIdOf}
 use Rattle.blif_read.specs.View.{name_at}
-use Rattle.blif_write.specs.Labels.{label_of, ids_in}
-use Rattle.blif_write.specs.declared.label.Label.{Label as NetLabel}
-use Rattle.blif_write.specs.declared.label.Label.TheVariants.{Given, Store, Next, Check, Rail, Inner}
+use Rattle.named_netlist.specs.Labels.{label_of, ids_in}
+use Rattle.named_netlist.specs.declared.label.Label.{Label as NetLabel}
+use Rattle.named_netlist.specs.declared.label.Label.TheVariants.{Given, Store, Next, Check, Rail, Inner}
 use Rattle.blif_read.proofs.SpelledLemmas.{all-at}
 
 abbrev pub bit_name : Name

@@ -6,9 +6,9 @@ use Rattle.netlist_spec.specs.Gates.{GateList, one, LatchRow}
 use Rattle.netlist_spec.specs.Written.{Label, given, Named, IsNamed}
 use Rattle.imp_text.specs.declared.names.NameId.{NameId}
 use Rattle.blif_read.specs.Ids.{IsIdOf}
-use Rattle.blif_write.specs.Labels.{label_of, ids_in}
-use Rattle.blif_write.specs.declared.label.Label.{Label as NetLabel}
-use Rattle.blif_write.specs.declared.label.Label.TheVariants.{Given}
+use Rattle.named_netlist.specs.Labels.{label_of, ids_in}
+use Rattle.named_netlist.specs.declared.label.Label.{Label as NetLabel}
+use Rattle.named_netlist.specs.declared.label.Label.TheVariants.{Given}
 use Rattle.blif_read.proofs.SpelledLemmas.{all-at}
 
 abbrev pub named_with : Name → List Name → List Name → List ℕ → GateList → List Label → List LatchRow → Named

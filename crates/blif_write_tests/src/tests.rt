@@ -3,10 +3,11 @@ ghost use Rattle.std.specs.Prelude.{◌≡◌, [], ◌∷◌, IfOk};
 ghost use Rattle.imp_io.specs.MemSink.{HasDistinctNumbers};
 
 use blif_read::{Clocking, File};
-use blif_write::{Label, Named, WriteRefusal, as_file, write};
+use blif_write::{WriteRefusal, as_file, write};
 use gate_net::{Gate, GateNet, LatchRow, NetId, Op};
 use imp_io::MemSink;
 use imp_text::{Name, NameId, Names};
+use named_netlist::{Label, Named};
 use std::alloc::{AllocError, Global};
 use std::test::Fail;
 

@@ -25,7 +25,7 @@ use Rattle.netlist_spec.specs.WrittenForm.{HasGateForm, inner_outputs}
 use Rattle.netlist_spec.specs.WrittenText.{IsOneReading, IsTextOf}
 use Rattle.imp_text.proofs.NamesLemmas.{same_name-true}
 use Rattle.gate_net.specs.Written.{named_machine}
-use Rattle.blif_write.proofs.NamedFiles.{names-back, latches-of, gates-of, latch_at, gate_at, numbered_latches, numbered_gates}
+use Rattle.named_netlist.proofs.NamedFiles.{names-back, latches-of, gates-of, latch_at, gate_at, numbered_latches, numbered_gates}
 use Rattle.elaborate.specs.Flat.{AreClockedAlike, StandsForSource, IsFlatNamed}
 
 -- ---- lists

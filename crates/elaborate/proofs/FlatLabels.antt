@@ -10,9 +10,9 @@ use Rattle.netlist_spec.proofs.OneValue.{All_append}
 use Rattle.imp_text.specs.declared.names.NameId.{NameId}
 use Rattle.blif_read.specs.View.{name_at}
 use Rattle.blif_read.specs.Ids.{IsIdOf}
-use Rattle.blif_write.specs.Labels.{label_of, ids_in}
-use Rattle.blif_write.specs.declared.label.Label.{Label as NetLabel}
-use Rattle.blif_write.specs.declared.label.Label.TheVariants.{Given, Inner}
+use Rattle.named_netlist.specs.Labels.{label_of, ids_in}
+use Rattle.named_netlist.specs.declared.label.Label.{Label as NetLabel}
+use Rattle.named_netlist.specs.declared.label.Label.TheVariants.{Given, Inner}
 use Rattle.elaborate.specs.Flat.{at_gates}
 use Rattle.elaborate.specs.Labels.{labels_of}
 use Rattle.elaborate.proofs.DistinctNames.{at_gates-map, all_at_gates}

@@ -3,8 +3,8 @@ use Rattle.std.specs.Prelude.{List, ◌++◌, length, map}
 use Rattle.std.specs.List.{range_with_len}
 use Rattle.netlist_spec.specs.Gates.{Machine}
 use Rattle.imp_text.specs.declared.names.NameId.{NameId}
-use Rattle.blif_write.specs.declared.label.Label.{Label}
-use Rattle.blif_write.specs.declared.label.Label.TheVariants.{Given, Inner}
+use Rattle.named_netlist.specs.declared.label.Label.{Label}
+use Rattle.named_netlist.specs.declared.label.Label.TheVariants.{Given, Inner}
 use Rattle.elaborate.specs.Flat.{at_gates}
 
 abbrev pub labels_of : List NameId → List NameId → Machine → List NameId → List Label

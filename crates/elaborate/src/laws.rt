@@ -13,7 +13,7 @@ ghost use Rattle.netlist_spec.specs.Written.{IsNamed, Named as NamedGates, file_
 ghost use Rattle.netlist_spec.specs.WrittenText.{IsFlatText, IsTextOf};
 ghost use Rattle.elaborate.specs.Flat.{AreClockedAlike, IsFlatNamed, StandsForSource};
 
-use blif_write::{
+use named_netlist::{
     named_files_are_ordered, named_files_have_written_form, named_files_run_as_gates,
     named_texts_are_read,
 };

@@ -3,14 +3,14 @@ ghost use Rattle.std.specs.Prelude.{◌≡◌, ◌++◌, length, map, IfOk, OnOk
 ghost use Rattle.std.specs.List.{range_with_len};
 ghost use Rattle.netlist_spec.specs.Written.{IsNamed};
 ghost use Rattle.gate_net.specs.Gate.{net_number};
-ghost use Rattle.blif_write.specs.declared.label.Label.TheVariants.{Given, Inner};
+ghost use Rattle.named_netlist.specs.declared.label.Label.TheVariants.{Given, Inner};
 ghost use Rattle.elaborate.specs.Flat.{AreFlatNets, IsFlatNamed, at_gates};
 ghost use Rattle.elaborate.specs.Labels.{labels_of};
 
 use crate::{Elaborated, FlatNets};
-use blif_write::{Label, Named};
 use gate_net::{Machine, NetId};
 use imp_text::NameId;
+use named_netlist::{Label, Named};
 use std::alloc::{AllocError, Global};
 
 /// The flat netlist of a source, from the nets that `flat` answered for it. Latches and outputs have their names, and the

@@ -16,12 +16,12 @@ use crate::Refusal;
 use crate::load::load_named;
 use crate::stop::Stop;
 use blif_read::{File, read};
-use blif_write::Named;
 use elaborate::{
     elaborate_ready, elaborated_sources_stand_for_their_files, flat, flat_netlists_are_flat,
     is_flat_ready, name_flat,
 };
 use imp_io::Files;
+use named_netlist::Named;
 use std::alloc::{AllocError, Global};
 
 const LONGEST_NETLIST: usize = 268_435_456;

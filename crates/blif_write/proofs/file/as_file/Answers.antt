@@ -9,9 +9,10 @@ use Rattle.gate_net.specs.Gate.{net_number}
 use Rattle.blif_read.specs.View.{file_of, located_of, model_of, name_at, port_of}
 use Rattle.blif_read.specs.declared.file.Model.{Model as ReadModel}
 use Rattle.blif_write.specs.Numbers.{ports_numbered}
-use Rattle.blif_write.proofs.FileLemmas.{all-names, is-small, later-three, later-two, names-long, ports-at, same-model, statements-at, written_model}
-use Rattle.blif_write.proofs.NamedReads.{texts-are-read}
-use Rattle.blif_write.proofs.NetLemmas.{clocks-are, inputs-are, outputs-here}
+use Rattle.blif_write.proofs.FileLemmas.{all-names, is-small, later-three, later-two, names-long, ports-at, same-model, statements-at}
+use Rattle.named_netlist.proofs.WrittenModel.{written_model}
+use Rattle.named_netlist.proofs.NamedReads.{texts-are-read}
+use Rattle.named_netlist.proofs.NetLemmas.{clocks-are, inputs-are, outputs-here}
 use Rattle.blif_read.proofs.SpelledLemmas.{length-numbers}
 use Rattle.blif_write.proofs.file.as_file.Goals as goal
 

@@ -7,7 +7,7 @@ use Rattle.netlist_spec.specs.Netlist.{IsName, Clocking}
 use Rattle.netlist_spec.specs.Reads.{control_nets}
 use Rattle.netlist_spec.specs.Written.{Named, IsNamed}
 use Rattle.blif_read.specs.Spelled.{with_names}
-use Rattle.blif_write.proofs.NetLemmas.{control-is}
+use Rattle.named_netlist.proofs.NetLemmas.{control-is}
 use Rattle.blif_read.proofs.SpelledLemmas.{one-within}
 use Rattle.blif_write.proofs.NumberLemmas.{control-name, control-same}
 use Rattle.blif_write.proofs.file.clocking.Goals as goal

@@ -6,7 +6,7 @@ use Rattle.blif_read.specs.Spelled.{Spells, with_names}
 use Rattle.blif_write.proofs.FileLemmas.{gate-case}
 use Rattle.netlist_spec.specs.Written.{Named, IsNamed}
 use Rattle.gate_net.specs.Gate.{gate_form}
-use Rattle.blif_write.proofs.NetLemmas.{reads-at, store-here}
+use Rattle.named_netlist.proofs.NetLemmas.{reads-at, store-here}
 use Rattle.blif_write.proofs.file.statement.Goals as goal
 
 pub latch-requires-clause-d : goal.latch-requires-clause-d

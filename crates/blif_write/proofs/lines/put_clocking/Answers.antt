@@ -1,7 +1,7 @@
 use Rattle.std.proofs.lemmas.Result.{err_from_is_err_and}
 use Rattle.imp_io.proofs.PutLemmas.{Puts-append, Puts-stopped}
 use Rattle.std.proofs.Common.{append-nil}
-use Rattle.blif_write.proofs.NetLemmas.{control-in}
+use Rattle.named_netlist.proofs.NetLemmas.{control-in}
 use Rattle.blif_write.proofs.lines.put_clocking.Goals as goal
 
 pub control_bytes-requires : goal.control_bytes-requires

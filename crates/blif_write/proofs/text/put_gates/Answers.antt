@@ -4,7 +4,7 @@ use Rattle.std.proofs.Common.{◌≡◌, ◌-◌, ◌≤◌, Some, slice_get, ap
 use Rattle.netlist_spec.specs.Written.{Named, IsNamed}
 use Rattle.gate_net.specs.Gate.{gate_form}
 use Rattle.blif_write.specs.Lines.{gate_text}
-use Rattle.blif_write.proofs.NetLemmas.{reads-at}
+use Rattle.named_netlist.proofs.NetLemmas.{reads-at}
 use Rattle.blif_write.proofs.Steps.{Puts-text, numbered-step, numbered-split}
 use Rattle.blif_write.proofs.text.put_gates.Goals as goal
 

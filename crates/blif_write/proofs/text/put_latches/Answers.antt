@@ -4,7 +4,7 @@ use Rattle.std.proofs.Common.{◌≡◌, ℕ, ◌-◌, ◌<◌, ◌≤◌, get_o
 use Rattle.netlist_spec.specs.Written.{Named, IsNamed}
 use Rattle.gate_net.specs.Machine.{latch_row}
 use Rattle.blif_write.specs.Lines.{latch_text}
-use Rattle.blif_write.proofs.NetLemmas.{latch-here, store-here}
+use Rattle.named_netlist.proofs.NetLemmas.{latch-here, store-here}
 use Rattle.blif_write.proofs.Steps.{Puts-text, numbered-step, numbered-split}
 use Rattle.blif_write.proofs.text.put_latches.Goals as goal
 

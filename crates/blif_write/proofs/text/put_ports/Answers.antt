@@ -3,7 +3,7 @@ use Rattle.imp_io.proofs.PutLemmas.{Puts-append, Puts-stopped}
 use Rattle.std.proofs.Common.{ap, map, subst, ◌∙◌}
 use Rattle.netlist_spec.specs.Written.{Named, IsNamed}
 use Rattle.gate_net.specs.Gate.{net_number}
-use Rattle.blif_write.proofs.NetLemmas.{outputs-here}
+use Rattle.named_netlist.proofs.NetLemmas.{outputs-here}
 use Rattle.blif_write.proofs.text.put_ports.Goals as goal
 
 pub returns-in_err-put_names : goal.returns-in_err-put_names

@@ -6,7 +6,7 @@ use Rattle.gate_net.specs.Machine.{latch_row}
 use Rattle.imp_text.specs.Names.{with_name}
 use Rattle.blif_read.specs.Ids.{IsIdOf}
 use Rattle.blif_read.specs.View.{name_at}
-use Rattle.blif_write.specs.Labels.{label_of}
+use Rattle.named_netlist.specs.Labels.{label_of}
 use Rattle.blif_write_tests.proofs.EachKindLemmas.{bit_name, last_name, kinds_net, HaveNames, kinds-with, control-is, control-inside, inputs-named, inputs-inside, labels-named, labels-inside}
 use Rattle.blif_write_tests.proofs.InverterLemmas.{none-at}
 use Rattle.blif_read.proofs.SpelledLemmas.{number-later}

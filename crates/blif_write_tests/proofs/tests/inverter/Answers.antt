@@ -4,7 +4,7 @@ use Rattle.gate_net.specs.Gate.{net_number}
 use Rattle.gate_net.specs.Machine.{latch_row}
 use Rattle.blif_read.specs.Ids.{IsIdOf}
 use Rattle.blif_read.specs.View.{name_at}
-use Rattle.blif_write.specs.Labels.{label_of}
+use Rattle.named_netlist.specs.Labels.{label_of}
 use Rattle.blif_write_tests.proofs.InverterLemmas.{inverter_net, named-with, none-at, labels-are, labels-within}
 use Rattle.blif_read.proofs.SpelledLemmas.{number-later}
 use Rattle.blif_write_tests.proofs.tests.inverter.Goals as goal

@@ -8,8 +8,8 @@ use Rattle.gate_net.specs.Gate.{net_number}
 use Rattle.gate_net.specs.Machine.{latch_row, machine_of}
 use Rattle.blif_read.specs.View.{name_at, clocking_of}
 use Rattle.blif_read.specs.Ids.{IsIdOf}
-use Rattle.blif_write.specs.Labels.{label_of, ids_in}
-use Rattle.blif_write.specs.declared.label.Label.{Label as NetLabel}
+use Rattle.named_netlist.specs.Labels.{label_of, ids_in}
+use Rattle.named_netlist.specs.declared.label.Label.{Label as NetLabel}
 use Rattle.elaborate.specs.declared.elaborated.Elaborated.TheInside.{Inside}
 use Rattle.elaborate.specs.Elaborated.{elaborated_of}
 use Rattle.elaborate.specs.Flat.{AreFlatNets, IsFlatNamed, flat_named, flat_labels}

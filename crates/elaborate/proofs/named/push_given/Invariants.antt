@@ -1,5 +1,5 @@
 use Rattle.std.proofs.Common.{◌≡◌, ◌++◌, map, take}
-use Rattle.blif_write.specs.declared.label.Label.TheVariants.{Given}
+use Rattle.named_netlist.specs.declared.label.Label.TheVariants.{Given}
 use Rattle.elaborate.proofs.named.push_given.Given as goal
 
 abbrev pub invariant-loop-n : goal.invariant-loop-n

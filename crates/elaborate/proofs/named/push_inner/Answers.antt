@@ -2,8 +2,8 @@ use Rattle.std.proofs.Common.{◌≡◌, ◌+◌, ◌++◌, ◌∷◌, [], sym, 
 use Rattle.std.specs.List.{range_with_len}
 use Rattle.std.proofs.lemmas.List.{append_assoc}
 use Rattle.std.proofs.lemmas.List.FromFn.{map-range_with_len_more}
-use Rattle.blif_write.specs.declared.label.Label.{Label}
-use Rattle.blif_write.specs.declared.label.Label.TheVariants.{Inner}
+use Rattle.named_netlist.specs.declared.label.Label.{Label}
+use Rattle.named_netlist.specs.declared.label.Label.TheVariants.{Inner}
 use Rattle.elaborate.proofs.named.push_inner.Goals as goal
 
 one_more : (before labels more : List Label) (i : ℕ) → labels ≡ before ++ map (λ k. Inner k) (range_with_len 0 i) → more ≡ labels ++ Inner i ∷ [] → more ≡ before ++ map (λ k. Inner k) (range_with_len 0 (i + 1))

@@ -1,6 +1,6 @@
 use Rattle.std.proofs.Common.{◌≡◌, ◌++◌, map}
 use Rattle.std.specs.List.{range_with_len}
-use Rattle.blif_write.specs.declared.label.Label.TheVariants.{Inner}
+use Rattle.named_netlist.specs.declared.label.Label.TheVariants.{Inner}
 use Rattle.elaborate.proofs.named.push_inner.Given as goal
 
 abbrev pub invariant-loop-i : goal.invariant-loop-i

@@ -5,8 +5,8 @@ use Rattle.std.proofs.lemmas.List.{append_assoc, append-nil, map-append, map_mor
 use Rattle.imp_text.specs.declared.names.NameId.{NameId}
 use Rattle.gate_net.specs.declared.gate.NetId.{NetId}
 use Rattle.gate_net.specs.Gate.{net_number}
-use Rattle.blif_write.specs.declared.label.Label.{Label}
-use Rattle.blif_write.specs.declared.label.Label.TheVariants.{Given}
+use Rattle.named_netlist.specs.declared.label.Label.{Label}
+use Rattle.named_netlist.specs.declared.label.Label.TheVariants.{Given}
 use Rattle.elaborate.specs.Flat.{at_gates}
 use Rattle.elaborate.proofs.Cells.{at_gates-push}
 use Rattle.elaborate.proofs.named.push_outputs.Goals as goal

@@ -1,6 +1,6 @@
 use Rattle.std.proofs.Common.{◌≡◌, ◌++◌, map, take}
 use Rattle.gate_net.specs.Gate.{net_number}
-use Rattle.blif_write.specs.declared.label.Label.TheVariants.{Given}
+use Rattle.named_netlist.specs.declared.label.Label.TheVariants.{Given}
 use Rattle.elaborate.specs.Flat.{at_gates}
 use Rattle.elaborate.proofs.named.push_outputs.Given as goal
 

@@ -5,8 +5,8 @@ use Rattle.gate_net.specs.Gate.{net_number}
 use Rattle.gate_net.specs.Machine.{latch_row}
 use Rattle.blif_read.specs.View.{name_at, clocking_of}
 use Rattle.blif_read.specs.Ids.{IsIdOf, control_ids}
-use Rattle.blif_write.specs.Labels.{label_of, ids_in}
-use Rattle.blif_write.specs.declared.named.Named.TheInside.{Inside}
+use Rattle.named_netlist.specs.Labels.{label_of, ids_in}
+use Rattle.named_netlist.specs.declared.named.Named.TheInside.{Inside}
 
 abbrev pub named_of : Inside → Named
 named_of g =

@@ -13,7 +13,7 @@ ghost use Rattle.netlist_spec.specs.Written.{IsNamed, Named, file_of};
 ghost use Rattle.netlist_spec.specs.WrittenForm.{HasGateForm, HasWrittenForm};
 ghost use Rattle.netlist_spec.specs.WrittenText.{IsOneReading};
 ghost use Rattle.gate_net.specs.Written.{HasOwnNames, named_machine};
-ghost use Rattle.blif_write.specs.Laws.{AreOfNets, HasNumberedInner, faults_by_name, faults_of_nets};
+ghost use Rattle.named_netlist.specs.Laws.{AreOfNets, HasNumberedInner, faults_by_name, faults_of_nets};
 
 /// The text of a gate list says the file that it is written as, and no other.
 pub fn named_texts_are_read()

@@ -1,7 +1,7 @@
 use Rattle.std.proofs.Common.{ap, subst, ◌∙◌}
 use Rattle.netlist_spec.specs.Written.{Named, IsNamed}
-use Rattle.blif_write.proofs.NetLemmas.{name-here, given-here}
-use Rattle.blif_write.proofs.named.Named.net_name.Goals as goal
+use Rattle.named_netlist.proofs.NetLemmas.{name-here, given-here}
+use Rattle.named_netlist.proofs.named.Named.net_name.Goals as goal
 
 pub returns-clause-bytes : goal.returns-clause-bytes
 returns-clause-bytes c =

@@ -4,7 +4,7 @@ ghost use Rattle.std.specs.List.{AllByRecursion};
 ghost use Rattle.netlist_spec.specs.Netlist.{IsName};
 ghost use Rattle.netlist_spec.specs.Written.{given_name, label_name};
 ghost use Rattle.blif_read.specs.Ids.{IsIdOf};
-ghost use Rattle.blif_write.specs.Labels.{ids_in, label_of};
+ghost use Rattle.named_netlist.specs.Labels.{ids_in, label_of};
 
 use arrayvec::ArrayString;
 use imp_text::{NameId, Names};
@@ -25,7 +25,7 @@ pub enum Label {
 }
 
 /// Room for the longest name that a guard adds: `guard:o`, `:c` and two numbers of ten digits.
-pub(crate) type NameText = ArrayString<29>;
+pub type NameText = ArrayString<29>;
 
 // The bytes of a name. The room is for one that isn't given.
 pub(crate) fn name_bytes<'a>(names: &'a Names, label: Label, room: &'a mut NameText) -> &'a [u8]

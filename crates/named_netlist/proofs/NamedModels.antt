@@ -9,8 +9,8 @@ use Rattle.netlist_spec.specs.Models.{Latch, latches_of, clock_nets, data_inputs
 use Rattle.netlist_spec.specs.Gates.{LatchRow}
 use Rattle.netlist_spec.specs.Written.{Named, IsNamed, given, label_name, named_clocks}
 use Rattle.gate_net.specs.Written.{HasOwnNames}
-use Rattle.blif_write.proofs.FileLemmas.{written_model}
-use Rattle.blif_write.proofs.NamedFiles.{names-back, latch_at, numbered_latches, latches-of}
+use Rattle.named_netlist.proofs.WrittenModel.{written_model}
+use Rattle.named_netlist.proofs.NamedFiles.{names-back, latch_at, numbered_latches, latches-of}
 
 -- whether a name stands in two lists
 pub stands_in-append : (n : Name) (xs ys : List Name) → stands_in n (xs ++ ys) ≡ (stands_in n xs || stands_in n ys)

@@ -12,11 +12,11 @@ use Rattle.netlist_spec.specs.Values.{Forced, shown, Values}
 use Rattle.netlist_spec.specs.Runs.{Fault, forced_at, FaultyCycle, Run}
 use Rattle.netlist_spec.specs.Gates.{GateForm, LatchRow, NetFault}
 use Rattle.netlist_spec.specs.Written.{Named, IsNamed, label_name, file_of}
-use Rattle.blif_write.specs.Laws.{faults_by_name, AreOfNets, faults_of_nets}
-use Rattle.blif_write.proofs.FileLemmas.{written_model}
-use Rattle.blif_write.proofs.NamedFiles.{latch_at, gate_at, gates-of}
-use Rattle.blif_write.proofs.NamedModels.{first_statement, same-latches}
-use Rattle.blif_write.proofs.NamedRuns.{runs_over}
+use Rattle.named_netlist.specs.Laws.{faults_by_name, AreOfNets, faults_of_nets}
+use Rattle.named_netlist.proofs.WrittenModel.{written_model}
+use Rattle.named_netlist.proofs.NamedFiles.{latch_at, gate_at, gates-of}
+use Rattle.named_netlist.proofs.NamedModels.{first_statement, same-latches}
+use Rattle.named_netlist.proofs.NamedRuns.{runs_over}
 
 -- ---- a fault at another name
 

@@ -17,11 +17,11 @@ use Rattle.netlist_spec.specs.WrittenText.{IsOneReading}
 use Rattle.netlist_spec.proofs.OneReading.{one_reading}
 use Rattle.netlist_spec.proofs.OneValue.{All_append, All_back}
 use Rattle.netlist_spec.proofs.WrittenLines.{plain_words, lines_back_behind, unknown_comment, reads_lines}
-use Rattle.blif_write.proofs.LabelNames.{IsLineName, decimal-no_feed, net-line, input-lines, clock-lines, model-line}
-use Rattle.blif_write.proofs.FileLemmas.{written_model}
-use Rattle.blif_write.proofs.NamedFiles.{names-back, latch_at, latch_written, gate_written, numbered_latches, numbered_gates, written_statements, statements-numbered, gates-of}
-use Rattle.blif_write.proofs.NamedLines.{IsOpen, IsFree, MayComeNext, lines_next, end_next, gate_lines_of, gates_next, Declares, inputs_declare, outputs_declare, clocks_declare, latches_declare, gates_declare, IsInModel, one-model_declared}
-use Rattle.blif_write.proofs.NamedModels.{same-latches}
+use Rattle.named_netlist.proofs.LabelNames.{IsLineName, decimal-no_feed, net-line, input-lines, clock-lines, model-line}
+use Rattle.named_netlist.proofs.WrittenModel.{written_model}
+use Rattle.named_netlist.proofs.NamedFiles.{names-back, latch_at, latch_written, gate_written, numbered_latches, numbered_gates, written_statements, statements-numbered, gates-of}
+use Rattle.named_netlist.proofs.NamedLines.{IsOpen, IsFree, MayComeNext, lines_next, end_next, gate_lines_of, gates_next, Declares, inputs_declare, outputs_declare, clocks_declare, latches_declare, gates_declare, IsInModel, one-model_declared}
+use Rattle.named_netlist.proofs.NamedModels.{same-latches}
 
 -- what holds of each line behind `.model`
 record IsFine (said : Said) : Type 0 where

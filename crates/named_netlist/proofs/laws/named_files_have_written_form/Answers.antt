@@ -1,5 +1,5 @@
-use Rattle.blif_write.proofs.NamedForms.{gates-have_form, inner-have_form, inner-apart}
-use Rattle.blif_write.proofs.laws.named_files_have_written_form.Goals as goal
+use Rattle.named_netlist.proofs.NamedForms.{gates-have_form, inner-have_form, inner-apart}
+use Rattle.named_netlist.proofs.laws.named_files_have_written_form.Goals as goal
 
 pub returns-clause-gates : goal.returns-clause-gates
 returns-clause-gates c = gates-have_form

@@ -17,9 +17,9 @@ use Rattle.netlist_spec.specs.Written.{Named, IsNamed, label_name, net_name, out
 use Rattle.netlist_spec.proofs.OneValue.{passes_both, none_both}
 use Rattle.netlist_spec.proofs.NoFault.{other_way}
 use Rattle.netlist_spec.proofs.Occurrences.{turn}
-use Rattle.blif_write.proofs.FileLemmas.{written_model}
-use Rattle.blif_write.proofs.NamedFiles.{names-back, latch_at, latch_written, gate_written, numbered_latches, numbered_gates, written_statements, statements-numbered}
-use Rattle.blif_write.proofs.NamedModels.{stands_in-append, same-latches, first-inputs, first-names}
+use Rattle.named_netlist.proofs.WrittenModel.{written_model}
+use Rattle.named_netlist.proofs.NamedFiles.{names-back, latch_at, latch_written, gate_written, numbered_latches, numbered_gates, written_statements, statements-numbered}
+use Rattle.named_netlist.proofs.NamedModels.{stands_in-append, same-latches, first-inputs, first-names}
 
 -- ---- lines that never fall are in file order
 

@@ -1,7 +1,7 @@
-use Rattle.blif_write.proofs.NamedFaults.{others-have_no_effect, some-nets}
-use Rattle.blif_write.proofs.NamedModels.{own-names}
-use Rattle.blif_write.proofs.NamedRuns.{runs-of-gates}
-use Rattle.blif_write.proofs.laws.named_files_run_as_gates.Goals as goal
+use Rattle.named_netlist.proofs.NamedFaults.{others-have_no_effect, some-nets}
+use Rattle.named_netlist.proofs.NamedModels.{own-names}
+use Rattle.named_netlist.proofs.NamedRuns.{runs-of-gates}
+use Rattle.named_netlist.proofs.laws.named_files_run_as_gates.Goals as goal
 
 pub returns-clause-names : goal.returns-clause-names
 returns-clause-names c = own-names

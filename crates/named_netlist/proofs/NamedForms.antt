@@ -12,11 +12,11 @@ use Rattle.netlist_spec.specs.GuardNames.{inner_name}
 use Rattle.netlist_spec.specs.Written.{Named, IsNamed, Label, given, store, next, check, rail, inner, label_name, net_name, file_of}
 use Rattle.netlist_spec.specs.WrittenForm.{HasGateForm, inner_outputs, HasWrittenForm}
 use Rattle.netlist_spec.proofs.Occurrences.{turn}
-use Rattle.blif_write.specs.Laws.{IsNamedOrInner, is_inner, gate_label_list, inner_labels, HasNumberedInner}
-use Rattle.blif_write.proofs.FileLemmas.{written_model}
-use Rattle.blif_write.proofs.NamedFiles.{gate_at, numbered_gates, gates-of}
-use Rattle.blif_write.proofs.NamedModels.{first_statement}
-use Rattle.blif_write.proofs.NamedOrder.{gates_behind}
+use Rattle.named_netlist.specs.Laws.{IsNamedOrInner, is_inner, gate_label_list, inner_labels, HasNumberedInner}
+use Rattle.named_netlist.proofs.WrittenModel.{written_model}
+use Rattle.named_netlist.proofs.NamedFiles.{gate_at, numbered_gates, gates-of}
+use Rattle.named_netlist.proofs.NamedModels.{first_statement}
+use Rattle.named_netlist.proofs.NamedOrder.{gates_behind}
 
 module _ (g : Named) where
   forms : (ps : List (ℕ × GateForm)) → AllByRecursion HasGateForm (map (gate_at g) ps)

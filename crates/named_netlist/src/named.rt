@@ -33,7 +33,7 @@ impl Model for Named {
 
     ghost Value = { NamedGates };
 
-    ghost use Rattle.blif_write.specs.Named.{IsWellNamed, named_of};
+    ghost use Rattle.named_netlist.specs.Named.{IsWellNamed, named_of};
 
     ghost view = { named_of };
 
@@ -41,8 +41,8 @@ impl Model for Named {
 }
 
 impl Named {
-    // The bytes of the name of a net. The room is for a name that isn't given.
-    pub(crate) fn net_name<'a>(&'a self, n: NetId, room: &'a mut NameText) -> &'a [u8]
+    /// The bytes of the name of a net. The room is for a name that isn't given.
+    pub fn net_name<'a>(&'a self, n: NetId, room: &'a mut NameText) -> &'a [u8]
         requires { n.0 < length self.now.labels }
         ensures bytes { result.now ≡ net_name self.now n.0 }
         ensures is_name { IsName result.now }

@@ -15,8 +15,8 @@ use Rattle.gate_net.specs.Machine.{latch_row}
 use Rattle.imp_text.specs.declared.names.NameId.{NameId}
 use Rattle.blif_read.specs.declared.file.Clocking.TheVariants.{Edge}
 use Rattle.blif_read.specs.Ids.{IsIdOf, control_ids}
-use Rattle.blif_write.specs.Labels.{label_of}
-use Rattle.blif_write.specs.declared.label.Label.{Label as NetLabel}
+use Rattle.named_netlist.specs.Labels.{label_of}
+use Rattle.named_netlist.specs.declared.label.Label.{Label as NetLabel}
 
 -- the name of a net is that of its label
 pub label-at : (names : List Name) (labels : List NetLabel) (n : ℕ) (d : NetLabel) → n < length labels → get_or (map label_name (map (label_of names) labels)) n [] ≡ label_name (label_of names (get_or labels n d))

@@ -10,10 +10,10 @@ use Rattle.netlist_spec.specs.Gates.{LatchRow, NetFault, forced_nets_at, GateSte
 use Rattle.netlist_spec.specs.Written.{Named, IsNamed, net_name, written_init_of, file_of}
 use Rattle.gate_net.specs.Written.{named_machine, SameBits, named_faults, AreFaultsOf}
 use Rattle.gate_net.proofs.Written.{same_values, same_outputs, some_names}
-use Rattle.blif_write.specs.Laws.{faults_by_name, AreOfNets}
-use Rattle.blif_write.proofs.FileLemmas.{written_model}
-use Rattle.blif_write.proofs.NamedFiles.{latch_at}
-use Rattle.blif_write.proofs.NamedModels.{same-latches, own-names}
+use Rattle.named_netlist.specs.Laws.{faults_by_name, AreOfNets}
+use Rattle.named_netlist.proofs.WrittenModel.{written_model}
+use Rattle.named_netlist.proofs.NamedFiles.{latch_at}
+use Rattle.named_netlist.proofs.NamedModels.{same-latches, own-names}
 
 -- where each step of one machine is one of another, so is each run
 pub runs_over : (step other : CycleStep) → ((c : ℕ) (x s y next : Bits) → step c x s y next → other c x s y next) → (c : ℕ) (s : Bits) (xs : Stream) (states outs : List Bits) → RunsFrom step c s xs states outs → RunsFrom other c s xs states outs

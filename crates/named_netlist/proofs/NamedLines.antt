@@ -11,7 +11,7 @@ use Rattle.netlist_spec.specs.Text.{cell_at, row_cells, cover_lines, latch_said}
 use Rattle.netlist_spec.specs.Gates.{GateForm, constant, one, two, LatchRow, gate_reads, gate_rows, gate_cover, pair_row}
 use Rattle.netlist_spec.specs.Written.{Named, net_name, ports_from, statements_from}
 use Rattle.netlist_spec.proofs.OneValue.{All_append}
-use Rattle.blif_write.proofs.NamedFiles.{latch_at, gate_at, latch_written, gate_written}
+use Rattle.named_netlist.proofs.NamedFiles.{latch_at, gate_at, latch_written, gate_written}
 
 -- ---- which line may follow which
 

@@ -4,8 +4,8 @@ use Rattle.netlist_spec.specs.Netlist.{Name}
 use Rattle.netlist_spec.specs.Written.{Label, given, store, next, check, rail, inner}
 use Rattle.imp_text.specs.declared.names.NameId.{NameId}
 use Rattle.blif_read.specs.View.{name_at}
-use Rattle.blif_write.specs.declared.label.Label.{Label as NetLabel}
-use Rattle.blif_write.specs.declared.label.Label.TheVariants.{Given, Store, Next, Check, Rail, Inner}
+use Rattle.named_netlist.specs.declared.label.Label.{Label as NetLabel}
+use Rattle.named_netlist.specs.declared.label.Label.TheVariants.{Given, Store, Next, Check, Rail, Inner}
 
 abbrev pub label_of : List Name → NetLabel → Label
 label_of names (Given id) = given (name_at names id)

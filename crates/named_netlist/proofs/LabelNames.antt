@@ -1,6 +1,6 @@
 -- The names of labels are words that can stand in a text.
 use Rattle.std.proofs.Common.{◌≡◌, refl, sym, ◌∙◌, ap, ap₂, subst, ℕ, zero, suc, ◌+◌, ◌<◌, ◌≤◌, ◌/◌, ◌%◌, List, [], ◌∷◌, ◌++◌, length, map, get_or, codes, Bool, true, false, ◌&&◌, ◌||◌, not, cond, ◌==◌, append_assoc, length-append, arith}
-use Rattle.std.specs.Prelude.{IsTrue, decimal, nat_lt, nat_le}
+use Rattle.std.specs.Prelude.{IsTrue, decimal, nat_lt}
 use Rattle.std.specs.Fmt.{digits, digits_onto, digit_glyph}
 use Rattle.std.specs.List.{AllByRecursion, flat_map, list_all}
 use Rattle.std.proofs.lemmas.Grind.{common_steps}

@@ -1,0 +1,11 @@
+pub mod WrittenModel
+pub mod LabelNames
+pub mod NamedFaults
+pub mod NamedFiles
+pub mod NamedForms
+pub mod NamedLines
+pub mod NamedModels
+pub mod NamedOrder
+pub mod NamedReads
+pub mod NamedRuns
+pub mod NetLemmas
