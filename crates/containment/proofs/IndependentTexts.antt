@@ -11,7 +11,8 @@ use Rattle.guard_spec.specs.Regions.{CoversGates, HaveOwnNets, AreSeparate}
 use Rattle.netlist_spec.specs.GateRanges.{Region}
 use Rattle.netlist_spec.specs.Written.{Named, label_name, latch_statement, latch_statements, gate_statement, gate_statements, line_count, statements_from, file_of}
 use Rattle.containment.specs.Written.{machine_of, IsWellNamed, NamesRails}
-use Rattle.containment.proofs.WrittenRuns.{facts, names_long, apart, gates_are, latches_are, latch_labels_are, gate_labels_are, shows_back, stores_back}
+use Rattle.containment.proofs.WrittenRuns.{names_long, apart, gates_are, latches_are, latch_labels_are, gate_labels_are, shows_back, stores_back}
+use Rattle.netlist_spec.proofs.WrittenFiles.{facts}
 use Rattle.containment.proofs.TextBits.{IsTextModel, all_independent, never_back}
 
 without_lines : (k : ℕ) (ss : List Statement) → map (λ s. s.what) (statements_from k ss) ≡ ss

@@ -19,7 +19,8 @@ use Rattle.netlist_spec.specs.GateRanges.{Region}
 use Rattle.guard_spec.specs.Rails.{SomeWord, RailsTellOf, IsUntouchedIn, RailsTellIn}
 use Rattle.netlist_spec.specs.Written.{Named, label_name, net_name, latch_statement, gate_statement, file_of}
 use Rattle.containment.specs.Written.{machine_of, net_of, place_in, IsWellNamed, IsNamedGuard}
-use Rattle.containment.proofs.WrittenRuns.{AreApart, apart, names_long, facts, gate_values, place_tells, maps}
+use Rattle.containment.proofs.WrittenRuns.{apart, names_long, gate_values, place_tells}
+use Rattle.netlist_spec.proofs.WrittenFiles.{AreApart, facts, maps}
 use Rattle.containment.proofs.TextBits.{slice_map, from_slice, slice_zip, region_has, gates_above, ends}
 use Rattle.containment.proofs.IndependentTexts.{text_main, text_model}
 

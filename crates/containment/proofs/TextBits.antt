@@ -17,7 +17,7 @@ use Rattle.netlist_spec.specs.GateRanges.{Region, LiesIn, LeadsToEnd, is_end, is
 use Rattle.netlist_spec.specs.Written.{Named, net_name, latch_statement, gate_statement}
 use Rattle.netlist_spec.proofs.ListTests.{both, any_element, any_from}
 use Rattle.containment.specs.Written.{machine_of, NamesRails}
-use Rattle.containment.proofs.WrittenRuns.{gate_for}
+use Rattle.netlist_spec.proofs.WrittenFiles.{gate_for}
 
 -- ---- lists
 

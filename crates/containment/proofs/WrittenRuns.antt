@@ -1,135 +1,23 @@
 -- The runs of a written file are runs of its gate list.
-use Rattle.std.proofs.Common.{◌≡◌, ◌≢◌, refl, sym, ◌∙◌, ap, ap₂, subst, ℕ, zero, suc, ◌+◌, ◌*◌, ◌<◌, ◌≤◌, List, [], ◌∷◌, ◌++◌, length, map, filter_map, take, drop, get_or, zip, Bool, true, false, cond, ◌&&◌, ◌==◌, ◌⊎◌, inl, inr, Option, Some, None, arith, find, option_map, unwrap_or, eq-eqb, ne_eqb, drop-cons, length-drop, add-one}
-use Rattle.std.proofs.lemmas.Bool.{cases_eq, or_parts}
+use Rattle.std.proofs.Common.{◌≡◌, ◌≢◌, refl, sym, ◌∙◌, ap, ap₂, subst, ℕ, zero, suc, ◌+◌, ◌<◌, ◌≤◌, List, [], ◌∷◌, length, map, take, drop, get_or, zip, Bool, true, false, cond, ◌==◌, ◌⊎◌, inl, inr, Option, Some, None, arith, find, eq-eqb, ne_eqb, length-drop}
+use Rattle.std.proofs.lemmas.Bool.{cases_eq}
 use Rattle.std.specs.Prelude.{IsSomeAnd}
 use Rattle.std.proofs.lemmas.List.{length-map, take_all}
-use borrow.Author.Tests.{not-true}
-use Rattle.std.specs.List.{AllByRecursion, AllZip, enumerate_from, range_with_len, cons_option}
+use Rattle.std.specs.List.{AllByRecursion, AllZip, enumerate_from, range_with_len}
 use Rattle.std.specs.Cmp.Lexicographic.{bytes_decides}
-use Rattle.netlist_spec.specs.Netlist.{Name, same_name, stands_in, are_distinct, Row, Statement, Located, Model}
-use Rattle.netlist_spec.specs.Covers.{differ, has_bit, cover_value}
-use Rattle.netlist_spec.specs.Models.{main_model, Latch, as_latch, latches_of, Gate, as_gate, gates_of, init_bit, init_bits, data_inputs, output_nets}
+use Rattle.netlist_spec.specs.Netlist.{Name, same_name, Model}
+use Rattle.netlist_spec.specs.Covers.{cover_value}
+use Rattle.netlist_spec.specs.Models.{main_model, Latch, latches_of, Gate, gates_of, init_bit, init_bits, data_inputs}
 use Rattle.netlist_spec.specs.SourceRun.{Bits, Stream, RunsFrom}
 use Rattle.netlist_spec.specs.Values.{shown, Values}
 use Rattle.netlist_spec.specs.Runs.{Fault, faults_at, FaultyCycle}
-use Rattle.netlist_spec.specs.Gates.{GateForm, constant, one, two, bit_number, gate_answer, gate_reads, gate_cover, LatchRow, ForcedNets, shown_net, GateValues, forced_nets_at, GateStep, GateRun}
-use Rattle.netlist_spec.specs.Written.{Named, label_name, net_name, output_names, latch_labels, gate_labels, latch_statement, latch_statements, gate_statement, gate_statements, written_init_of, statements_from, line_count, ports_from, file_of}
+use Rattle.netlist_spec.specs.Gates.{GateForm, gate_answer, gate_reads, gate_cover, LatchRow, ForcedNets, shown_net, GateValues, forced_nets_at, GateStep, GateRun}
+use Rattle.netlist_spec.specs.Written.{Named, label_name, net_name, latch_labels, gate_labels, written_init_of, file_of}
 use Rattle.containment.specs.Written.{net_faults, IsWritten, place_in, machine_of, net_of, IsWellNamed}
 use Rattle.containment.proofs.Text.{same_faults, runs_by}
-
--- The cover of a gate has the gate's answer.
-
-abbrev row_if : Bool → ℕ → List Row
-row_if h value = cond h (record { care = 3; value = value } ∷ []) []
-
-four_rows : (h0 h1 h2 h3 a b : Bool) → cover_value (record { on = true; rows = row_if h0 0 ++ row_if h1 2 ++ row_if h2 1 ++ row_if h3 3 }) (a ∷ b ∷ []) ≡ cond a (cond b h3 h2) (cond b h1 h0)
-four_rows true true true true true true = refl
-four_rows true true true true true false = refl
-four_rows true true true true false true = refl
-four_rows true true true true false false = refl
-four_rows true true true false true true = refl
-four_rows true true true false true false = refl
-four_rows true true true false false true = refl
-four_rows true true true false false false = refl
-four_rows true true false true true true = refl
-four_rows true true false true true false = refl
-four_rows true true false true false true = refl
-four_rows true true false true false false = refl
-four_rows true true false false true true = refl
-four_rows true true false false true false = refl
-four_rows true true false false false true = refl
-four_rows true true false false false false = refl
-four_rows true false true true true true = refl
-four_rows true false true true true false = refl
-four_rows true false true true false true = refl
-four_rows true false true true false false = refl
-four_rows true false true false true true = refl
-four_rows true false true false true false = refl
-four_rows true false true false false true = refl
-four_rows true false true false false false = refl
-four_rows true false false true true true = refl
-four_rows true false false true true false = refl
-four_rows true false false true false true = refl
-four_rows true false false true false false = refl
-four_rows true false false false true true = refl
-four_rows true false false false true false = refl
-four_rows true false false false false true = refl
-four_rows true false false false false false = refl
-four_rows false true true true true true = refl
-four_rows false true true true true false = refl
-four_rows false true true true false true = refl
-four_rows false true true true false false = refl
-four_rows false true true false true true = refl
-four_rows false true true false true false = refl
-four_rows false true true false false true = refl
-four_rows false true true false false false = refl
-four_rows false true false true true true = refl
-four_rows false true false true true false = refl
-four_rows false true false true false true = refl
-four_rows false true false true false false = refl
-four_rows false true false false true true = refl
-four_rows false true false false true false = refl
-four_rows false true false false false true = refl
-four_rows false true false false false false = refl
-four_rows false false true true true true = refl
-four_rows false false true true true false = refl
-four_rows false false true true false true = refl
-four_rows false false true true false false = refl
-four_rows false false true false true true = refl
-four_rows false false true false true false = refl
-four_rows false false true false false true = refl
-four_rows false false true false false false = refl
-four_rows false false false true true true = refl
-four_rows false false false true true false = refl
-four_rows false false false true false true = refl
-four_rows false false false true false false = refl
-four_rows false false false false true true = refl
-four_rows false false false false true false = refl
-four_rows false false false false false true = refl
-four_rows false false false false false false = refl
-
-table_entry : (op : ℕ) (a b : Bool) → cond a (cond b (has_bit op 3) (has_bit op 2)) (cond b (has_bit op 1) (has_bit op 0)) ≡ has_bit op (2 * bit_number a + bit_number b)
-table_entry op true true = refl
-table_entry op true false = refl
-table_entry op false true = refl
-table_entry op false false = refl
-
-copied : (inv x : Bool) → cover_value (gate_cover (one inv 0)) (x ∷ []) ≡ differ inv x
-copied true true = refl
-copied true false = refl
-copied false true = refl
-copied false false = refl
-
-pub cover_answers : (form : GateForm) (w : ℕ → Bool) → cover_value (gate_cover form) (map w (gate_reads form)) ≡ gate_answer form w
-cover_answers (constant true) w = refl
-cover_answers (constant false) w = refl
-cover_answers (one true a) w = copied true (w a)
-cover_answers (one false a) w = copied false (w a)
-cover_answers (two op a b) w = four_rows (has_bit op 0) (has_bit op 1) (has_bit op 2) (has_bit op 3) (w a) (w b) ∙ table_entry op (w a) (w b)
+use Rattle.netlist_spec.proofs.WrittenFiles.{cover_answers, AreApart, apart_from, one_entry, part_as_map, maps, latch_for, gate_for, Facts, facts}
 
 -- The number of a name.
-
-abbrev pub AreApart : List Name → Type 0
-AreApart ns = (i j : ℕ) → i < length ns → j < length ns → get_or ns i [] ≡ get_or ns j [] → i ≡ j
-
-both : (a b : Bool) → (a && b) ≡ true → (a ≡ true) × (b ≡ true)
-both true b h = (refl, h)
-both false b h = cc h
-
-stands_nowhere : (n : Name) (ns : List Name) → stands_in n ns ≡ false → (i : ℕ) → i < length ns → n ≡ get_or ns i [] → ⊥
-stands_nowhere n [] none i h e = absurd (omega arith)
-stands_nowhere n (m ∷ ms) none zero h e =
-    let t : true ≡ false = sym ((bytes_decides n m).1 e) ∙ (or_parts (same_name n m) (stands_in n ms) none).0 in
-    cc t
-stands_nowhere n (m ∷ ms) none (suc i) h e = stands_nowhere n ms (or_parts (same_name n m) (stands_in n ms) none).1 i (omega arith) e
-
--- distinct names stand at one place each
-apart_from : (ns : List Name) → are_distinct ns ≡ true → AreApart ns
-apart_from [] d i j hi hj e = absurd (omega arith)
-apart_from (n ∷ ns) d zero zero hi hj e = refl
-apart_from (n ∷ ns) d zero (suc j) hi hj e = absurd (stands_nowhere n ns (not-true _ (both _ _ d).0) j (omega arith) e)
-apart_from (n ∷ ns) d (suc i) zero hi hj e = absurd (stands_nowhere n ns (not-true _ (both _ _ d).0) i (omega arith) (sym e))
-apart_from (n ∷ ns) d (suc i) (suc j) hi hj e = ap suc (apart_from ns (both _ _ d).1 i j (omega arith) (omega arith) e)
 
 suc_test : (a b : ℕ) → (a == b) ≡ (suc a == suc b)
 suc_test a b = by_case (cases_eq a b)
@@ -158,67 +46,18 @@ place_tells (m ∷ ms) apart n (suc q) h = by_test (same_name n m) refl (place_t
 
 -- What a fault shows at a net, by name and by number.
 
-one_entry : (own bit : Bool) (n : Name) (k : ℕ) (t t' : Bool) → t ≡ t' → (o : Option (Name × Bool)) (o' : Option (ℕ × Bool)) → unwrap_or (option_map (λ (e : Name × Bool). e.1) o) own ≡ unwrap_or (option_map (λ (e : ℕ × Bool). e.1) o') own
-    → unwrap_or (option_map (λ (e : Name × Bool). e.1) (cond t (Some (n, bit)) o)) own ≡ unwrap_or (option_map (λ (e : ℕ × Bool). e.1) (cond t' (Some (k, bit)) o')) own
-one_entry own bit n k true true e o o' h = refl
-one_entry own bit n k true false e o o' h = cc e
-one_entry own bit n k false true e o o' h = cc e
-one_entry own bit n k false false e o o' h = h
-
 same_shown : (ns : List Name) → AreApart ns → (q : ℕ) → q < length ns → (own : Bool) (fs : List Fault) → shown (map (λ a. (a.cell, a.bit)) fs) (get_or ns q []) own ≡ shown_net (map (λ a. (place_in ns a.cell, a.bit)) fs) q own
 same_shown ns apart q h own [] = refl
 same_shown ns apart q h own (a ∷ fs) =
     one_entry own a.bit a.cell (place_in ns a.cell) _ _ (place_tells ns apart a.cell q h)
     (find (λ (e : Name × Bool). same_name e.0 (get_or ns q [])) (map (λ a. (a.cell, a.bit)) fs)) (find (λ (e : ℕ × Bool). e.0 == q) (map (λ a. (place_in ns a.cell, a.bit)) fs)) (same_shown ns apart q h own fs)
 
--- Lists of the model.
-
-part_as_map : (ns : List Name) (a n : ℕ) → a + n ≤ length ns → take n (drop a ns) ≡ map (λ k. get_or ns k []) (range_with_len a n)
-part_as_map ns a zero fits = refl
-part_as_map ns a (suc n) fits =
-    ap (λ (rest : List Name). take (suc n) rest) (drop-cons ns a [] (omega arith))
-    ∙ ap (λ (rest : List Name). get_or ns a [] ∷ rest) (ap (λ (k : ℕ). take n (drop k ns)) (sym (add-one a)) ∙ part_as_map ns (a + 1) n (omega arith))
-
-pub maps : {A B C : Type 0} (v : B → C) (f : A → B) (ks : List A) → map v (map f ks) ≡ map (λ k. v (f k)) ks
-maps v f [] = refl
-maps v f (k ∷ ks) = ap (λ rest. v (f k) ∷ rest) (maps v f ks)
-
-names_back : (k : ℕ) (ns : List Name) → map (λ p. p.name) (ports_from k ns) ≡ ns
-names_back k [] = refl
-names_back k (n ∷ ns) = ap (λ (rest : List Name). n ∷ rest) (names_back (k + 1) ns)
-
-without_lines : {A : Type 0} (h : Statement → Option A) (k : ℕ) (ss : List Statement) → filter_map (λ (s : Located). h s.what) (statements_from k ss) ≡ filter_map h ss
-without_lines h k [] = refl
-without_lines h k (s ∷ ss) = ap (λ rest. cons_option (h s) rest) (without_lines h (k + line_count s) ss)
-
 module _ (g : Named) where
-  abbrev pub latch_for : Name × LatchRow → Latch
-  latch_for z = record { d = net_name g z.1.d; q = z.0; clocking = g.clocking; init = written_init_of z.1.init }
-
-  abbrev pub gate_for : Name × GateForm → Gate
-  gate_for z = record { ins = map (net_name g) (gate_reads z.1); out = z.0; cover = gate_cover z.1 }
-
-  no_latches : (ys : List (Name × GateForm)) → filter_map as_latch (map (gate_statement g) ys) ≡ []
-  no_latches [] = refl
-  no_latches (y ∷ ys) = no_latches ys
-
-  only_latches : (zs : List (Name × LatchRow)) (ys : List (Name × GateForm)) → filter_map as_latch (map (latch_statement g) zs ++ map (gate_statement g) ys) ≡ map latch_for zs
-  only_latches [] ys = no_latches ys
-  only_latches (z ∷ zs) ys = ap (λ (rest : List Latch). latch_for z ∷ rest) (only_latches zs ys)
-
-  all_gates : (ys : List (Name × GateForm)) → filter_map as_gate (map (gate_statement g) ys) ≡ map gate_for ys
-  all_gates [] = refl
-  all_gates (y ∷ ys) = ap (λ (rest : List Gate). gate_for y ∷ rest) (all_gates ys)
-
-  only_gates : (zs : List (Name × LatchRow)) (ys : List (Name × GateForm)) → filter_map as_gate (map (latch_statement g) zs ++ map (gate_statement g) ys) ≡ map gate_for ys
-  only_gates [] ys = all_gates ys
-  only_gates (z ∷ zs) ys = only_gates zs ys
-
   abbrev all_names : List Name
   all_names = map label_name g.labels
 
   abbrev pub LatchesFrom : ℕ → List LatchRow → List Latch
-  LatchesFrom a ls = map latch_for (zip (map (λ k. get_or (map label_name g.labels) k []) (range_with_len a (length ls))) ls)
+  LatchesFrom a ls = map (latch_for g) (zip (map (λ k. get_or (map label_name g.labels) k []) (range_with_len a (length ls))) ls)
 
   written_init : (b : Bool) → init_bit (written_init_of b) ≡ b
   written_init true = refl
@@ -235,19 +74,6 @@ module _ (g : Named) where
   pub stores_back : (a : ℕ) (ls : List LatchRow) → map (λ l. l.d) (LatchesFrom a ls) ≡ map (net_name g) (map (λ r. r.d) ls)
   stores_back a [] = refl
   stores_back a (r ∷ ls) = ap (λ (rest : List Name). net_name g r.d ∷ rest) (stores_back (a + 1) ls)
-
-  abbrev pub Facts : Model → Type 0
-  Facts m =
-      (latches_of m ≡ map latch_for (zip (latch_labels g) g.latches))
-      × (gates_of m ≡ map gate_for (zip (gate_labels g) g.net.gates))
-      × (output_nets m ≡ output_names g)
-
-  pub facts : IsSomeAnd (main_model (file_of g)) Facts
-  facts = (
-    without_lines as_latch _ (latch_statements g ++ gate_statements g) ∙ only_latches (zip (latch_labels g) g.latches) (zip (gate_labels g) g.net.gates),
-    without_lines as_gate _ (latch_statements g ++ gate_statements g) ∙ only_gates (zip (latch_labels g) g.latches) (zip (gate_labels g) g.net.gates),
-    names_back _ (output_names g),
-  )
 
   module _ (well : IsWellNamed g) where
     pub names_long : length (map label_name g.labels) ≡ g.net.leaves + length g.net.gates
@@ -266,7 +92,7 @@ module _ (g : Named) where
 
     module _ (fs : List Fault) (v : Name → Bool) where
       gates_hold : (gs : List GateForm) (k : ℕ) → k + length gs ≤ length (map label_name g.labels)
-          → AllByRecursion (λ (x : Gate). v x.out ≡ shown (map (λ a. (a.cell, a.bit)) fs) x.out (cover_value x.cover (map v x.ins))) (map gate_for (zip (map (λ k. get_or (map label_name g.labels) k []) (range_with_len k (length gs))) gs))
+          → AllByRecursion (λ (x : Gate). v x.out ≡ shown (map (λ a. (a.cell, a.bit)) fs) x.out (cover_value x.cover (map v x.ins))) (map (gate_for g) (zip (map (λ k. get_or (map label_name g.labels) k []) (range_with_len k (length gs))) gs))
           → AllByRecursion (λ (p : ℕ × GateForm). v (net_name g p.0) ≡ shown_net (map (λ a. (net_of g a.cell, a.bit)) fs) p.0 (gate_answer p.1 (λ n. v (net_name g n)))) (enumerate_from k gs)
       gates_hold [] k fits a = tt
       gates_hold (x ∷ gs) k fits a = (
@@ -284,12 +110,12 @@ module _ (g : Named) where
       latches_hold (suc n) a fits [] z = absurd z
       latches_hold (suc n) a fits (b ∷ stored) z = (z.0 ∙ same_shown (map label_name g.labels) apart a (omega arith) b fs, latches_hold n (a + 1) (omega arith) stored z.1)
 
-    module _ (m : Model) (are : Facts m) (inputs : data_inputs m ≡ take g.data_inputs (map label_name g.labels)) where
+    module _ (m : Model) (are : Facts g m) (inputs : data_inputs m ≡ take g.data_inputs (map label_name g.labels)) where
       pub latches_are : latches_of m ≡ LatchesFrom g.data_inputs g.latches
-      latches_are = are.0 ∙ ap (λ (ns : List Name). map latch_for (zip ns g.latches)) latch_labels_are
+      latches_are = are.0 ∙ ap (λ (ns : List Name). map (latch_for g) (zip ns g.latches)) latch_labels_are
 
-      pub gates_are : gates_of m ≡ map gate_for (zip (map (λ k. get_or (map label_name g.labels) k []) (range_with_len g.net.leaves (length g.net.gates))) g.net.gates)
-      gates_are = are.1 ∙ ap (λ (ns : List Name). map gate_for (zip ns g.net.gates)) gate_labels_are
+      pub gates_are : gates_of m ≡ map (gate_for g) (zip (map (λ k. get_or (map label_name g.labels) k []) (range_with_len g.net.leaves (length g.net.gates))) g.net.gates)
+      gates_are = are.1 ∙ ap (λ (ns : List Name). map (gate_for g) (zip ns g.net.gates)) gate_labels_are
 
       inputs_are : data_inputs m ≡ map (net_name g) (range_with_len 0 g.data_inputs)
       inputs_are = inputs ∙ part_as_map (map label_name g.labels) 0 g.data_inputs (let a = names_long in let b = well.leaves in omega arith)

@@ -22,3 +22,4 @@ pub mod OneRun
 pub mod OneValue
 pub mod Bits
 pub mod WrittenLines
+pub mod WrittenFiles
