@@ -28,7 +28,7 @@ use Rattle.blif_read.specs.View.{name_at, port_of, model_of, clocking_of, cover_
 use Rattle.imp_text.proofs.NamesLemmas.{slice_get-append_left}
 use Rattle.blif_read.specs.Spelled.{with_names, AreNumbers, Spells, SpellsEach}
 use Rattle.blif_write.specs.Numbers.{ports_numbered, latch_of, names_of, latch_with, gate_with, statement_at}
-use Rattle.named_netlist.proofs.NamedFiles.{latch_written, gate_written, numbered_latches, numbered_gates, statements-numbered}
+use Rattle.named_netlist.proofs.NamedFiles.{latch_written, gate_written, numbered_latches, numbered_gates, statements-numbered, items_long, statements-long}
 use Rattle.blif_read.proofs.SpelledLemmas.{all_cons, all_end, name-is, names-are, number-later, numbers-later, numbers-within, all-at, with_names-grows, with_names-append, with_names-first}
 use Rattle.blif_write.proofs.NumberLemmas.{ports-named, ports-within}
 use Rattle.named_netlist.proofs.WrittenModel.{model_with}
@@ -131,10 +131,6 @@ item_at f a (y ∷ xs) zero x e =
 item_at f a (y ∷ xs) (suc k) x e =
     let place : (a + 1) + k ≡ a + suc k = omega arith in
     item_at f (a + 1) xs k x e ∙ ap (λ n. Some (f (n, x))) place
-
-items_long : {A B : Type 0} (f : ℕ × A → B) (a : ℕ) (xs : List A) → length (map f (enumerate_from a xs)) ≡ length xs
-items_long f a [] = refl
-items_long f a (x ∷ xs) = ap suc (items_long f (a + 1) xs)
 
 behind : {A : Type 0} (xs ys : List A) (k : ℕ) (x : A) → slice_get ys k ≡ Some x → slice_get (xs ++ ys) (length xs + k) ≡ Some x
 behind [] ys k x e = rw zero-add e
@@ -250,15 +246,6 @@ front_long : {A : Type 0} (n : ℕ) (xs : List A) → n ≤ length xs → length
 front_long zero xs h = refl
 front_long (suc n) [] h = absurd (omega arith)
 front_long (suc n) (x ∷ xs) h = ap suc (front_long n xs (omega arith))
-
-pub statements-long : (g : Named) → IsNamed g → length (latch_statements g ++ gate_statements g) ≡ length g.latches + length g.net.gates
-statements-long g named =
-    ap length (statements-numbered g named)
-    ∙ (let e = length-append (map (latch_written g) (numbered_latches g)) (map (gate_written g) (numbered_gates g)) in
-    let a = items_long (latch_written g) g.data_inputs g.latches in
-    let b = items_long (gate_written g) g.net.leaves g.net.gates in
-    let sum : length (map (latch_written g) (numbered_latches g) ++ map (gate_written g) (numbered_gates g)) ≡ length g.latches + length g.net.gates = omega arith in
-    sum)
 
 pub record IsSmall (g : Named) : Type 0 where
   pub inputs : length g.inputs ≤ 131072

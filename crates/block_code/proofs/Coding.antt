@@ -24,7 +24,7 @@ pub differ_self : (x : Bool) → differ x x ≡ false
 differ_self true = refl
 differ_self false = refl
 
-differ_swap : (a b c d : Bool) → differ (differ a b) (differ c d) ≡ differ (differ a c) (differ b d)
+pub differ_swap : (a b c d : Bool) → differ (differ a b) (differ c d) ≡ differ (differ a c) (differ b d)
 differ_swap true true true true = refl
 differ_swap true true true false = refl
 differ_swap true true false true = refl
@@ -50,7 +50,7 @@ apart_sym [] (y ∷ ys) = refl
 apart_sym (x ∷ xs) [] = refl
 apart_sym (x ∷ xs) (y ∷ ys) = ap₂ (λ (b : Bool) (n : ℕ). cond b 1 0 + n) (differ_sym x y) (apart_sym xs ys)
 
-no_place : (b : Bool) (n : ℕ) → cond b 1 0 + n ≡ 0 → (b ≡ false) × (n ≡ 0)
+pub no_place : (b : Bool) (n : ℕ) → cond b 1 0 + n ≡ 0 → (b ≡ false) × (n ≡ 0)
 no_place true n h = absurd (omega arith)
 no_place false n h = (refl, omega arith)
 
@@ -135,7 +135,7 @@ length_sum [] b h = refl
 length_sum (x ∷ xs) [] h = absurd (omega arith)
 length_sum (x ∷ xs) (y ∷ ys) h = ap suc (length_sum xs ys (omega arith))
 
-ones_sum : (a b : Bits) → length a ≡ length b → ones (sum_of a b) ≡ apart a b
+pub ones_sum : (a b : Bits) → length a ≡ length b → ones (sum_of a b) ≡ apart a b
 ones_sum [] [] h = refl
 ones_sum [] (y ∷ ys) h = absurd (omega arith)
 ones_sum (x ∷ xs) [] h = absurd (omega arith)
@@ -147,7 +147,7 @@ sum_append [] b (y ∷ ys) d h = absurd (omega arith)
 sum_append (x ∷ xs) b [] d h = absurd (omega arith)
 sum_append (x ∷ xs) b (y ∷ ys) d h = ap (λ (bs : Bits). differ x y ∷ bs) (sum_append xs b ys d (omega arith))
 
-sum_swap : (a b c d : Bits) → sum_of (sum_of a b) (sum_of c d) ≡ sum_of (sum_of a c) (sum_of b d)
+pub sum_swap : (a b c d : Bits) → sum_of (sum_of a b) (sum_of c d) ≡ sum_of (sum_of a c) (sum_of b d)
 sum_swap [] b [] d = refl
 sum_swap [] b (z ∷ zs) d = refl
 sum_swap (x ∷ xs) [] [] d = refl
@@ -156,7 +156,7 @@ sum_swap (x ∷ xs) (y ∷ ys) [] d = refl
 sum_swap (x ∷ xs) (y ∷ ys) (z ∷ zs) [] = refl
 sum_swap (x ∷ xs) (y ∷ ys) (z ∷ zs) (k ∷ ks) = ap₂ (λ (b : Bool) (bs : Bits). b ∷ bs) (differ_swap x y z k) (sum_swap xs ys zs ks)
 
-sum_self : (a : Bits) (n : ℕ) → length a ≡ n → zeros n ≡ sum_of a a
+pub sum_self : (a : Bits) (n : ℕ) → length a ≡ n → zeros n ≡ sum_of a a
 sum_self [] zero h = refl
 sum_self [] (suc n) h = absurd (omega arith)
 sum_self (x ∷ xs) zero h = absurd (omega arith)
@@ -204,7 +204,7 @@ apart_ones (x ∷ xs) (y ∷ ys) h = one_place x y _ _ _ (apart_ones xs ys (omeg
     one_place false true n k j e = omega arith
     one_place false false n k j e = omega arith
 
-no_ones : (a : Bits) (n : ℕ) → length a ≡ n → ones a ≡ 0 → a ≡ zeros n
+pub no_ones : (a : Bits) (n : ℕ) → length a ≡ n → ones a ≡ 0 → a ≡ zeros n
 no_ones [] zero h e = refl
 no_ones [] (suc n) h e = absurd (omega arith)
 no_ones (x ∷ xs) zero h e = absurd (omega arith)
@@ -212,13 +212,13 @@ no_ones (x ∷ xs) (suc n) h e =
     let parts = no_place x (ones xs) e in
     ap₂ (λ (b : Bool) (bs : Bits). b ∷ bs) parts.0 (no_ones xs n (omega arith) parts.1)
 
-sum_take : (m : ℕ) (a b : Bits) → take m (sum_of a b) ≡ sum_of (take m a) (take m b)
+pub sum_take : (m : ℕ) (a b : Bits) → take m (sum_of a b) ≡ sum_of (take m a) (take m b)
 sum_take zero a b = refl
 sum_take (suc m) [] b = refl
 sum_take (suc m) (x ∷ xs) [] = refl
 sum_take (suc m) (x ∷ xs) (y ∷ ys) = ap (λ (bs : Bits). differ x y ∷ bs) (sum_take m xs ys)
 
-sum_drop : (m : ℕ) (a b : Bits) → drop m (sum_of a b) ≡ sum_of (drop m a) (drop m b)
+pub sum_drop : (m : ℕ) (a b : Bits) → drop m (sum_of a b) ≡ sum_of (drop m a) (drop m b)
 sum_drop zero a b = refl
 sum_drop (suc m) [] b = refl
 sum_drop (suc m) (x ∷ xs) [] = no_sum (drop m xs)
@@ -230,13 +230,13 @@ sum_drop (suc m) (x ∷ xs) (y ∷ ys) = sum_drop m xs ys
 
 -- Check bits are linear in the data.
 
-chosen_sum : (r : ℕ) (row : Bits) → length row ≡ r → (b c : Bool) → cond (differ b c) row (zeros r) ≡ sum_of (cond b row (zeros r)) (cond c row (zeros r))
+pub chosen_sum : (r : ℕ) (row : Bits) → length row ≡ r → (b c : Bool) → cond (differ b c) row (zeros r) ≡ sum_of (cond b row (zeros r)) (cond c row (zeros r))
 chosen_sum r row h true true = sum_self row r h
 chosen_sum r row h true false = sum_zeros_right row r h
 chosen_sum r row h false true = sum_zeros_left row r h
 chosen_sum r row h false false = sum_zeros_left (zeros r) r (length-replicate r false)
 
-checks_sum : (r : ℕ) (rows : List Bits) → AllByRecursion (λ row. length row ≡ r) rows → (u w : Bits) → length u ≡ length w → checks_by r rows (sum_of u w) ≡ sum_of (checks_by r rows u) (checks_by r rows w)
+pub checks_sum : (r : ℕ) (rows : List Bits) → AllByRecursion (λ row. length row ≡ r) rows → (u w : Bits) → length u ≡ length w → checks_by r rows (sum_of u w) ≡ sum_of (checks_by r rows u) (checks_by r rows w)
 checks_sum r rows all [] [] h = sum_zeros_left (zeros r) r (length-replicate r false)
 checks_sum r rows all [] (c ∷ w) h = absurd (omega arith)
 checks_sum r rows all (b ∷ u) [] h = absurd (omega arith)

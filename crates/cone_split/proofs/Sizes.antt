@@ -112,7 +112,7 @@ no_marks : (P : ℕ → Type 0) (xs : List ℕ) → ((i : ℕ) → P i → ⊥) 
 no_marks P [] never = ([], tt, refl)
 no_marks P (x ∷ xs) never = let (ms, marked, e) = no_marks P xs never in (false ∷ ms, (not_true (never x), marked), (let z : ones xs ms ≡ 0 = e in omega arith))
 
-no_cone : (net : GateList) (n : ℕ) → IsInCone net [] n → ⊥
+pub no_cone : (net : GateList) (n : ℕ) → IsInCone net [] n → ⊥
 no_cone net n (is_root c) = let h = c.1 in omega arith
 no_cone net n (is_read {n = m} inc r) = no_cone net m inc
 

@@ -4,3 +4,4 @@ pub mod Nets
 pub mod OneEvaluation
 pub mod Ranges
 pub mod Written
+pub mod Steps

@@ -1,5 +1,5 @@
 -- The latches and the gates of the file that a gate list is written as, in order with the numbers of their nets.
-use Rattle.std.proofs.Common.{◌≡◌, ℕ, ◌+◌, ◌≤◌, List, [], ◌∷◌, ◌++◌, length, map, filter_map, take, drop, get_or, zip, Option, refl, sym, ap, ◌∙◌, arith, drop-cons, add-one}
+use Rattle.std.proofs.Common.{◌≡◌, ℕ, ◌+◌, ◌≤◌, List, [], ◌∷◌, ◌++◌, length, map, filter_map, take, drop, get_or, zip, Option, refl, sym, ap, ◌∙◌, arith, drop-cons, add-one, suc, length-append}
 use Rattle.std.specs.List.{enumerate_from, cons_option}
 use Rattle.std.proofs.lemmas.List.{length-map}
 use Rattle.netlist_spec.specs.Netlist.{Name, Statement, Located}
@@ -103,3 +103,18 @@ module _ (g : Named) where
 
     pub gates-of : (k : ℕ) → filter_map (λ (s : Located). as_gate s.what) (statements_from k (latch_statements g ++ gate_statements g)) ≡ map gate_at numbered_gates
     gates-of k = without-lines as_gate k (latch_statements g ++ gate_statements g) ∙ ap (filter_map as_gate) statements-numbered ∙ only_gates numbered_latches numbered_gates
+
+-- ---- how many statements are written
+
+pub items_long : {A B : Type 0} (f : ℕ × A → B) (a : ℕ) (xs : List A) → length (map f (enumerate_from a xs)) ≡ length xs
+items_long f a [] = refl
+items_long f a (x ∷ xs) = ap suc (items_long f (a + 1) xs)
+
+pub statements-long : (g : Named) → IsNamed g → length (latch_statements g ++ gate_statements g) ≡ length g.latches + length g.net.gates
+statements-long g named =
+    ap length (statements-numbered g named)
+    ∙ (let e = length-append (map (latch_written g) (numbered_latches g)) (map (gate_written g) (numbered_gates g)) in
+    let a = items_long (latch_written g) g.data_inputs g.latches in
+    let b = items_long (gate_written g) g.net.leaves g.net.gates in
+    let sum : length (map (latch_written g) (numbered_latches g) ++ map (gate_written g) (numbered_gates g)) ≡ length g.latches + length g.net.gates = omega arith in
+    sum)

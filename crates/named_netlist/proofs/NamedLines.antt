@@ -3,42 +3,18 @@ use Rattle.std.proofs.Common.{◌≡◌, refl, sym, ◌∙◌, ap, ap₂, subst,
 use Rattle.std.specs.List.{AllByRecursion, flat_map, enumerate_from}
 use Rattle.std.proofs.lemmas.List.{length-map}
 use Rattle.std.proofs.lemmas.List.FromFn.{length-map-range_with_len}
-use Rattle.netlist_spec.specs.Netlist.{Name, Row, Cover, Statement, names, Port, Located, Model}
+use Rattle.netlist_spec.specs.Netlist.{Name, Row, Cover, Statement, names, Port, Located}
 use Rattle.netlist_spec.specs.Covers.{has_bit}
-use Rattle.netlist_spec.specs.Statements.{Cell, Said, model_line, inputs_line, outputs_line, clock_line, names_line, row_line, end_line, MayFollow, EachMayFollow}
-use Rattle.netlist_spec.specs.Reads.{Numbered, row_of, rows_at, shared_last, cover_of, model_body, inputs_in, outputs_in, clocks_in, statements_in, statement_nets, nets_in, model_of, models_of}
+use Rattle.netlist_spec.specs.Statements.{Cell, Said, inputs_line, outputs_line, clock_line, names_line, row_line, end_line, MayFollow, EachMayFollow}
+use Rattle.netlist_spec.specs.Reads.{Numbered, row_of, rows_at, shared_last, cover_of, inputs_in, outputs_in, clocks_in, statements_in, statement_nets, nets_in}
 use Rattle.netlist_spec.specs.Text.{cell_at, row_cells, cover_lines, latch_said}
 use Rattle.netlist_spec.specs.Gates.{GateForm, constant, one, two, LatchRow, gate_reads, gate_rows, gate_cover, pair_row}
 use Rattle.netlist_spec.specs.Written.{Named, net_name, ports_from, statements_from}
 use Rattle.netlist_spec.proofs.OneValue.{All_append}
 use Rattle.named_netlist.proofs.NamedFiles.{latch_at, gate_at, latch_written, gate_written}
+use Rattle.netlist_spec.proofs.FollowingLines.{IsOpen, free_follow, MayComeNext}
 
 -- ---- which line may follow which
-
--- after any line but `.end`, any line but a row
-abbrev pub IsOpen : Said → Type 0
-IsOpen end_line = ⊥
-IsOpen _ = Unit {0}
-
-abbrev pub IsFree : Said → Type 0
-IsFree (row_line cells last) = ⊥
-IsFree _ = Unit {0}
-
-free_follow : (a b : Said) → IsOpen a → IsFree b → MayFollow a b
-free_follow end_line b o f = absurd o
-free_follow a (row_line cells last) o f = absurd f
-free_follow a b o f = tt
-
--- what may stand behind any line but `.end`
-abbrev pub MayComeNext : List Said → Type 0
-MayComeNext rest = (a : Said) → IsOpen a → EachMayFollow (a ∷ rest)
-
-pub lines_next : (xs rest : List Said) → AllByRecursion (λ x. IsOpen x × IsFree x) xs → MayComeNext rest → MayComeNext (xs ++ rest)
-lines_next [] rest h r a o = r a o
-lines_next (x ∷ xs) rest h r a o = (free_follow a x o h.0.1, lines_next xs rest h.1 r x h.0.0)
-
-pub end_next : MayComeNext (end_line ∷ [])
-end_next a o = (free_follow a end_line o tt, tt)
 
 abbrev row_lines : ℕ → List Row → List Said
 row_lines p rows = map (λ row. row_line (row_cells p row) true) rows
@@ -222,28 +198,3 @@ module _ (g : Named) where
         has_clocks = later.has_clocks;
         has_statements = ap (λ (l : List Located). record { line = n; what = latch_written g z } ∷ l) later.has_statements;
       }
-
--- ---- one model
-
-abbrev pub IsInModel : Said → Type 0
-IsInModel (model_line name) = ⊥
-IsInModel _ = Unit {0}
-
-body_step : (n : ℕ) (said : Said) (rest : List Numbered) → IsInModel said → model_body ((n, said) ∷ rest) ≡ (n, said) ∷ model_body rest
-body_step n (model_line name) rest h = absurd h
-body_step n said rest h = refl
-
-models_step : (n : ℕ) (said : Said) (rest : List Numbered) → IsInModel said → models_of ((n, said) ∷ rest) ≡ models_of rest
-models_step n (model_line name) rest h = absurd h
-models_step n said rest h = refl
-
-body_all : (n : ℕ) (lines : List Said) → AllByRecursion IsInModel lines → model_body (enumerate_from n lines) ≡ enumerate_from n lines
-body_all n [] h = refl
-body_all n (said ∷ lines) h = body_step n said (enumerate_from (n + 1) lines) h.0 ∙ ap (λ (l : List Numbered). (n, said) ∷ l) (body_all (n + 1) lines h.1)
-
-no_models : (n : ℕ) (lines : List Said) → AllByRecursion IsInModel lines → models_of (enumerate_from n lines) ≡ []
-no_models n [] h = refl
-no_models n (said ∷ lines) h = models_step n said (enumerate_from (n + 1) lines) h.0 ∙ no_models (n + 1) lines h.1
-
-pub one-model_declared : (n : ℕ) (name : Name) (lines : List Said) → AllByRecursion IsInModel lines → models_of (enumerate_from n (model_line name ∷ lines)) ≡ model_of n name (enumerate_from (n + 1) lines) ∷ []
-one-model_declared n name lines h = ap₂ (λ (body : List Numbered) (more : List Model). model_of n name body ∷ more) (body_all (n + 1) lines h) (no_models (n + 1) lines h)

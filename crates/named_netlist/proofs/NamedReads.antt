@@ -20,8 +20,9 @@ use Rattle.netlist_spec.proofs.WrittenLines.{plain_words, lines_back_behind, unk
 use Rattle.named_netlist.proofs.LabelNames.{IsLineName, decimal-no_feed, net-line, input-lines, clock-lines, model-line}
 use Rattle.named_netlist.proofs.WrittenModel.{written_model}
 use Rattle.named_netlist.proofs.NamedFiles.{names-back, latch_at, latch_written, gate_written, numbered_latches, numbered_gates, written_statements, statements-numbered, gates-of}
-use Rattle.named_netlist.proofs.NamedLines.{IsOpen, IsFree, MayComeNext, lines_next, end_next, gate_lines_of, gates_next, Declares, inputs_declare, outputs_declare, clocks_declare, latches_declare, gates_declare, IsInModel, one-model_declared}
+use Rattle.named_netlist.proofs.NamedLines.{gate_lines_of, gates_next, Declares, inputs_declare, outputs_declare, clocks_declare, latches_declare, gates_declare}
 use Rattle.named_netlist.proofs.NamedModels.{same-latches}
+use Rattle.netlist_spec.proofs.FollowingLines.{IsOpen, IsFree, MayComeNext, lines_next, end_next, IsInModel, one-model_declared}
 
 -- what holds of each line behind `.model`
 record IsFine (said : Said) : Type 0 where

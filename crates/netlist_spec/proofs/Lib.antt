@@ -23,3 +23,4 @@ pub mod OneValue
 pub mod Bits
 pub mod WrittenLines
 pub mod WrittenFiles
+pub mod FollowingLines

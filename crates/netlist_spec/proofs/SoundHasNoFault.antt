@@ -213,12 +213,12 @@ module _ (file : File) (library : Library) where
       stands_at : reads file library w.driver ≡ w.next.before ++ k ∷ w.next.after → stands_in k (reads file library w.driver) ≡ true
       stands_at e = ap (stands_in k) e ∙ here w.next.before w.next.after
 
-  walk_leads : (m : Model) (first : Name) (ns : List Name) → WalksAlong file library m ns first → LeadsBack file library m first ns
+  pub walk_leads : (m : Model) (first : Name) (ns : List Name) → WalksAlong file library m ns first → LeadsBack file library m first ns
   walk_leads m first [] w = w
   walk_leads m first (n ∷ []) w = walk_reads m n first w
   walk_leads m first (n ∷ k ∷ ns) w = (walk_reads m n k w.0, walk_leads m first (k ∷ ns) w.1)
 
-  along_back : (m : Model) (first : Name) (front : List Name) (n : Name) (ns : List Name) → WalksAlong file library m (front ++ n ∷ ns) first → WalksAlong file library m (n ∷ ns) first
+  pub along_back : (m : Model) (first : Name) (front : List Name) (n : Name) (ns : List Name) → WalksAlong file library m (front ++ n ∷ ns) first → WalksAlong file library m (n ∷ ns) first
   along_back m first [] n ns w = w
   along_back m first (x ∷ []) n ns w = w.1
   along_back m first (x ∷ y ∷ front) n ns w = along_back m first (y ∷ front) n ns w.1
@@ -261,7 +261,7 @@ module _ (file : File) (library : Library) where
         let d = occ_flat f n (port_items (λ k. an_input k) m.inputs) (port_items (λ k. an_output k) m.outputs) in
         omega arith
 
-    inputs_total : total declared_input ≡ occ n (port_names m.inputs)
+    pub inputs_total : total declared_input ≡ occ n (port_names m.inputs)
     inputs_total =
         let a = in_lists declared_input in
         let b = ap (occ n) (ports_give declared_input (λ k. an_input k) (λ k. refl) m.inputs) in
@@ -270,7 +270,7 @@ module _ (file : File) (library : Library) where
         let e : occ n (flat_map (λ i. declared_input i.what) (statement_items m.statements)) ≡ 0 = ap (occ n) (statements_give_none declared_input (λ s. refl) m.statements) in
         omega arith
 
-    outputs_total : total declared_output ≡ occ n (port_names m.outputs)
+    pub outputs_total : total declared_output ≡ occ n (port_names m.outputs)
     outputs_total =
         let a = in_lists declared_output in
         let b = ap (occ n) (ports_give declared_output (λ k. an_output k) (λ k. refl) m.outputs) in
@@ -279,7 +279,7 @@ module _ (file : File) (library : Library) where
         let e : occ n (flat_map (λ i. declared_output i.what) (statement_items m.statements)) ≡ 0 = ap (occ n) (statements_give_none declared_output (λ s. refl) m.statements) in
         omega arith
 
-    clocks_total : total declared_clock ≡ occ n (port_names m.clocks)
+    pub clocks_total : total declared_clock ≡ occ n (port_names m.clocks)
     clocks_total =
         let a = in_lists declared_clock in
         let b = ap (occ n) (ports_give declared_clock (λ k. a_clock k) (λ k. refl) m.clocks) in
@@ -288,7 +288,7 @@ module _ (file : File) (library : Library) where
         let e : occ n (flat_map (λ i. declared_clock i.what) (statement_items m.statements)) ≡ 0 = ap (occ n) (statements_give_none declared_clock (λ s. refl) m.statements) in
         omega arith
 
-    driven_total : total (driven_at file library) ≡ occ n (flat_map (λ s. drives file library s.what) m.statements)
+    pub driven_total : total (driven_at file library) ≡ occ n (flat_map (λ s. drives file library s.what) m.statements)
     driven_total =
         let a = in_lists (driven_at file library) in
         let b : occ n (flat_map (λ i. driven_at file library i.what) (port_items (λ k. an_input k) m.inputs)) ≡ 0 = ap (occ n) (ports_give_none (driven_at file library) (λ k. an_input k) (λ k. refl) m.inputs) in

@@ -26,7 +26,7 @@ and_answer true false = refl
 and_answer false true = refl
 and_answer false false = refl
 
-majority_near : (a b c k : Bool) → apart (a ∷ b ∷ c ∷ []) (k ∷ k ∷ k ∷ []) ≤ 1 → ((a && b) || (c && (a || b))) ≡ k
+pub majority_near : (a b c k : Bool) → apart (a ∷ b ∷ c ∷ []) (k ∷ k ∷ k ∷ []) ≤ 1 → ((a && b) || (c && (a || b))) ≡ k
 majority_near true true true true h = refl
 majority_near true true true false h = absurd (omega arith)
 majority_near true true false true h = refl
@@ -87,7 +87,7 @@ corrector_coded = record {
 pub corrector_have : HaveOwnNets toggle_corrector toggle
 corrector_have = own_nets_by_test toggle_corrector toggle refl refl
 
-thrice : (b : Bool) → encoded thrice_code (b ∷ []) ≡ b ∷ b ∷ b ∷ []
+pub thrice : (b : Bool) → encoded thrice_code (b ∷ []) ≡ b ∷ b ∷ b ∷ []
 thrice true = refl
 thrice false = refl
 

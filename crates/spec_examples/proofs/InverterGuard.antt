@@ -97,7 +97,7 @@ cone_cost cone (false ∷ true ∷ [], marked, e) = omega arith
 cone_cost cone (a ∷ false ∷ [], marked, e) = let clash : false ≡ true = marked.1.0.1 gate_in_cone in cc clash
 
 -- a leaf reads nothing
-only_itself : {k : ℕ} → IsGateReached toggle 0 k → k ≡ 0
+pub only_itself : {k : ℕ} → IsGateReached toggle 0 k → k ≡ 0
 only_itself same_net = refl
 only_itself (read_by r reads) = let e = only_itself r in absurd (let f = reads.number in omega arith)
 

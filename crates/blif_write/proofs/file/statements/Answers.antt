@@ -7,7 +7,8 @@ use Rattle.netlist_spec.specs.Written.{Named, IsNamed, latch_statements, gate_st
 use Rattle.blif_read.specs.View.{statement_of}
 use Rattle.blif_read.specs.Spelled.{SpellsEach, with_names}
 use Rattle.blif_write.specs.Numbers.{statement_at}
-use Rattle.blif_write.proofs.FileLemmas.{count-same, few-lines, next-statement, statements-long}
+use Rattle.blif_write.proofs.FileLemmas.{count-same, few-lines, next-statement}
+use Rattle.named_netlist.proofs.NamedFiles.{statements-long}
 use Rattle.blif_write.proofs.file.statements.Goals as goal
 
 pub line_count-lines-requires : goal.line_count-lines-requires
