@@ -1,0 +1,10 @@
+pub mod Settling
+pub mod Agreement
+pub mod Costs
+pub mod Holding
+pub mod Lowered
+pub mod ModelGraph
+pub mod Tests
+pub mod Nets
+pub mod Numbered
+pub mod FileLines
