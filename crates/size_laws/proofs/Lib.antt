@@ -1,0 +1,15 @@
+pub mod Lists
+pub mod Closure
+pub mod OneSize
+pub mod GateCones
+pub mod DistinctLabels
+pub mod SourceCones
+pub mod WordCosts
+pub mod Partial
+pub mod PartialSizes
+pub mod LabelKinds
+pub mod ConeMarks
+pub mod BitCosts
+pub mod SmallSizes
+pub mod TakenOver
+pub mod BitOrder
