@@ -1,0 +1,11 @@
+pub mod Lists
+pub mod Kept
+pub mod Sizes
+pub mod Shapes
+pub mod Texts
+pub mod Rows
+pub mod Copies
+pub mod Places
+pub mod Leaves
+pub mod Rail
+pub mod Within
