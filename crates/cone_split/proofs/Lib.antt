@@ -7,3 +7,4 @@ pub mod Sizes
 pub mod Sums
 pub mod Values
 pub mod Whole
+mod AllCopied

@@ -1,3 +1,4 @@
 pub mod Cones
 pub mod Copies
 pub mod Ranges
+pub mod Whole

@@ -1,12 +1,13 @@
 // A cone copied into a range of its own.
 ghost use Rattle.std.specs.Prelude.{◌≡◌, ◌+◌, ◌^◌, ◌<◌, ◌≤◌, ◌++◌, List, length, map, OnOk, OnErr, IfOk};
-ghost use Rattle.std.specs.List.{AllByRecursion, AllZip};
+ghost use Rattle.std.specs.List.{AllByRecursion, AllZip, range_with_len};
 ghost use Rattle.netlist_spec.specs.Gates.{GateForm, IsGateList, gate_reads};
 ghost use Rattle.gate_net.specs.Gate.{gate_form, net_number};
 ghost use Rattle.gate_net.specs.GateNet.{net_count};
 ghost use Rattle.cone_split.specs.Cones.{HasRoom};
 ghost use Rattle.cone_split.specs.Copies.{AreClosed, AreConeOf, AreCopied, HasImage, IsImage, IsSameOver, Rises};
 ghost use Rattle.cone_split.specs.Ranges.{IsCopy, KeepsGates};
+ghost use Rattle.cone_split.specs.Whole.{IsCopyOfAll};
 
 use crate::cone::gates_of;
 use crate::sum::append_sum;
@@ -40,6 +41,36 @@ pub fn copy_xor(
     }
     let nets = images(alloc, roots, leaf, &cells, first)?;
     append_sum(&nets, dst)
+}
+
+/// Appends a copy of all gates: `leaf` has the net that stands for each leaf of `src`. The gates of `src` have the new
+/// nets in their order. After want of memory `dst` may have some gates more.
+pub fn copy_all(
+    alloc: Global,
+    src: &GateNet,
+    leaf: &[NetId],
+    dst: &mut GateNet,
+) -> Result<(), AllocError>
+    requires leaves { length leaf.now ≡ src.now.leaves }
+    requires leaf { AllByRecursion (λ n. n < net_count dst.old) (map net_number leaf.now) }
+    requires room { net_count dst.old + length src.now.gates ≤ 2 ^ 23 }
+    ensures kept { KeepsGates dst.old dst.new }
+    ensures copy { OnOk result (IsCopyOfAll src.now (map net_number leaf.now) (net_count dst.old) dst.new) }
+{
+    let cells = all_gates(alloc, src)?;
+    append_cells(src, &cells, leaf, dst)
+}
+
+/// The numbers of all gates.
+fn all_gates(alloc: Global, src: &GateNet) -> Result<Vec<u32>, AllocError>
+    ensures well_formed { IsGateList src.now }
+    ensures cells { IfOk result (λ cells. cells.items ≡ range_with_len src.now.leaves (length src.now.gates)) }
+{
+    let mut cells = Vec::new(alloc);
+    for n in src.leaves()..src.len() {
+        cells.push(n)?;
+    }
+    Ok(cells)
 }
 
 /// Appends a copy of each cell.

@@ -9,5 +9,5 @@ mod sum;
 #[cfg(test)]
 mod tests;
 
-pub use copy::copy_xor;
+pub use copy::{copy_all, copy_xor};
 pub use laws::{cones_have_one_size, ranges_answer_alone, ranges_stay};
