@@ -1,0 +1,3 @@
+pub mod DemoFile
+pub mod DemoFiles
+pub mod DemoLaws
