@@ -1,0 +1,2 @@
+pub mod PlacingMachine
+pub mod JoinedList
