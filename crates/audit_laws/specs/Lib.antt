@@ -1,0 +1,4 @@
+pub mod FirstBits
+pub mod Along
+pub mod OnePass
+pub mod Table
