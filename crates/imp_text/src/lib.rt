@@ -20,6 +20,3 @@ pub use printed::escape;
 pub use quantity::What;
 pub use text::{Name, Text};
 pub use token::Token;
-
-#[cfg(test)]
-mod tests;

@@ -1,6 +1,6 @@
 use Rattle.std.proofs.Common.{◌≡◌, length, All}
 use Rattle.imp_text.specs.Tokens.{IsWithin}
-use Rattle.imp_text.proofs.tests.all_lines.Given as goal
+use Rattle.imp_text_tests.proofs.tests.all_lines.Given as goal
 
 abbrev pub invariant-loop-word : goal.invariant-loop-word
 invariant-loop-word l = All (IsWithin l.source) l.word-items
