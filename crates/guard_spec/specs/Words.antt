@@ -49,10 +49,14 @@ abbrev pub AreWords : ℕ → List Name → Option (List (List Name)) → Words 
 AreWords k nets None words = (all_numbers words ≡ range_with_len 0 (length nets)) × AreTakenBy k words
 AreWords k nets (Some named) words = AreNamed nets named words × IsPartition (length nets) k words
 
+-- the layout over latches and outputs with these names, in the order of their lines
+pub record IsLayoutOver (latches outputs : List Name) (s : Settings) (l : Layout) : Type 0 where
+  pub state : AreWords (data_places s.code) latches s.state_words l.state
+  pub output : AreWords (data_places s.code) outputs s.output_words l.output
+
 -- the layout of a source's main model
-pub record IsLayout (m : Model) (s : Settings) (l : Layout) : Type 0 where
-  pub state : AreWords (data_places s.code) (latch_outputs m) s.state_words l.state
-  pub output : AreWords (data_places s.code) (output_nets m) s.output_words l.output
+abbrev pub IsLayout : Model → Settings → Layout → Type 0
+IsLayout m s l = IsLayoutOver (latch_outputs m) (output_nets m) s l
 
 -- what may be wrong with the words of the settings
 pub data LayoutFault : Type 0 where
@@ -86,16 +90,20 @@ abbrev pub as_fault : (Name → LayoutFault) → Option Name → Option LayoutFa
 as_fault fault None = None
 as_fault fault (Some n) = Some (fault n)
 
--- The first fault: unknown names of both lists, then names that come twice, then nets left out; state words
--- stand before output words, and names in file order.
-abbrev pub layout_fault : Model → Settings → Option LayoutFault
-layout_fault m s =
-    option_or (as_fault (λ n. no_such_net n) (unknown_name (latch_outputs m) s.state_words))
-    (option_or (as_fault (λ n. no_such_net n) (unknown_name (output_nets m) s.output_words))
+-- The first fault, over latches and outputs with these names: unknown names of both lists, then names that come
+-- twice, then nets left out; state words stand before output words, and names in file order.
+abbrev pub layout_fault_over : (latches outputs : List Name) → Settings → Option LayoutFault
+layout_fault_over latches outputs s =
+    option_or (as_fault (λ n. no_such_net n) (unknown_name latches s.state_words))
+    (option_or (as_fault (λ n. no_such_net n) (unknown_name outputs s.output_words))
     (option_or (as_fault (λ n. in_two_words n) (name_again [] (named_in s.state_words)))
     (option_or (as_fault (λ n. in_two_words n) (name_again [] (named_in s.output_words)))
-    (option_or (as_fault (λ n. not_in_a_word n) (net_left_out (latch_outputs m) s.state_words))
-    (as_fault (λ n. not_in_a_word n) (net_left_out (output_nets m) s.output_words))))))
+    (option_or (as_fault (λ n. not_in_a_word n) (net_left_out latches s.state_words))
+    (as_fault (λ n. not_in_a_word n) (net_left_out outputs s.output_words))))))
+
+-- the first fault for a source's main model
+abbrev pub layout_fault : Model → Settings → Option LayoutFault
+layout_fault m s = layout_fault_over (latch_outputs m) (output_nets m) s
 
 -- the bits at the places of a word
 abbrev pub bits_at : List ℕ → Bits → Bits
