@@ -3,7 +3,7 @@ use Rattle.std.proofs.Common.{◌≡◌, sym, ◌∙◌, ap, subst, refl, ℕ, z
 use Rattle.std.proofs.lemmas.List.{drop-take, take-take, take-append-le, take_all}
 use Rattle.std.proofs.Math.Seq.{drop-append_seam}
 use Rattle.std.specs.List.{AllByRecursion, AllZip, range_with_len}
-use Rattle.netlist_spec.specs.Gates.{AnswersWithin, Machine, IsMachine, GateStep}
+use Rattle.netlist_spec.specs.Gates.{AnswersWithin, IsEvaluation, Machine, IsMachine, GateStep}
 use Rattle.netlist_spec.specs.SourceRun.{Bits}
 use Rattle.gate_net.specs.GateNet.{net_bit, net_count}
 use Rattle.gate_net.proofs.Evaluation.{bits_read, from_within}
@@ -50,3 +50,6 @@ module _ (m : Machine) (x s row : Bits) (nets : IsMachine m) (inputs : length x 
     outputs = refl;
     stores = refl;
   }
+
+  pub evaluated : AnswersWithin m.net m.net.leaves (net_count m.net) (net_bit row) → IsEvaluation m.net (x ++ s) (net_bit row)
+  evaluated answers = record { inputs = bits_read row 0 m.net.leaves (omega arith) ∙ leaves; gates = answers }

@@ -1,7 +1,7 @@
 // Clocked machines: latches over a gate list.
 ghost use Rattle.std.specs.Prelude.{◌≡◌, ℕ, ◌+◌, ◌<◌, ◌≤◌, [], ◌++◌, length, map, take};
 ghost use Rattle.std.specs.List.{AllByRecursion};
-ghost use Rattle.netlist_spec.specs.Gates.{GateStep};
+ghost use Rattle.netlist_spec.specs.Gates.{GateStep, IsEvaluation};
 ghost use Rattle.gate_net.specs.Gate.{net_number};
 ghost use Rattle.gate_net.specs.GateNet.{net_bit, net_count};
 ghost use Rattle.gate_net.specs.Machine.{latch_row};
@@ -38,13 +38,14 @@ impl Model for Machine {
 }
 
 impl Machine {
-    /// One cycle: the outputs and the next state from the inputs and the state. The row holds the bits of all nets.
+    /// One cycle: the outputs and the next state from the inputs and the state. The row gets the bits of all nets.
     pub fn step_into(&self, x: &[bool], state: &mut [bool], row: &mut [bool], out: &mut [bool])
         requires inputs { length x.now ≡ self.now.inputs }
         requires state { length state.old ≡ length self.now.latches }
         requires row { length row.old ≡ net_count self.now.net }
         requires out { length out.old ≡ length self.now.outputs }
         ensures step { GateStep self.now [] x.now state.old out.new state.new }
+        ensures row { IsEvaluation self.now.net (x.now ++ state.old) (net_bit row.new) }
     {
         let net = &self.net;
         put_leaves(x, state, row);

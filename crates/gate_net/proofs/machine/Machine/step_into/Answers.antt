@@ -1,11 +1,11 @@
-use Rattle.std.proofs.Common.{◌≡◌, ◌∙◌, sym, ap, subst, ℕ, ◌+◌, [], List, length, map, take, arith}
-use Rattle.netlist_spec.specs.Gates.{GateStep, Machine}
+use Rattle.std.proofs.Common.{◌≡◌, ◌∙◌, ◌++◌, sym, ap, subst, ℕ, ◌+◌, [], List, length, map, take, arith}
+use Rattle.netlist_spec.specs.Gates.{GateStep, IsEvaluation, Machine}
 use Rattle.gate_net.specs.declared.gate.NetId.{NetId}
 use Rattle.gate_net.specs.declared.machine.LatchRow.{LatchRow}
 use Rattle.gate_net.specs.Gate.{net_number}
 use Rattle.gate_net.specs.Machine.{latch_row, machine_of}
 use Rattle.gate_net.specs.GateNet.{net_bit, net_count}
-use Rattle.gate_net.proofs.Machines.{stepped}
+use Rattle.gate_net.proofs.Machines.{evaluated, stepped}
 use Rattle.gate_net.proofs.machine.Machine.step_into.Goals as goal
 
 pub returns : goal.returns
@@ -25,4 +25,8 @@ returns c =
           let Step : Machine → Type 0 = λ q. GateStep q [] c.args.x.now c.args.state.now c.read_outputs.new.out c.store.new.state in
           subst Step c.self.view_is
           (rw (out, next) (stepped m c.args.x.now c.args.state.now row c.self.invariant inputs state long leaves c.answer_gates.ensures.gates));
+      row =
+          let Row : Machine → Type 0 = λ q. IsEvaluation q.net (c.args.x.now ++ c.args.state.now) (net_bit row) in
+          subst Row c.self.view_is
+          (evaluated m c.args.x.now c.args.state.now row c.self.invariant inputs state long leaves c.answer_gates.ensures.gates);
     }
