@@ -1,6 +1,9 @@
 -- The statements of a file, and the file.
 use Rattle.std.proofs.Common.{◌≡◌, ℕ, zero, suc, ◌+◌, ◌-◌, ◌*◌, ◌<◌, ◌≤◌, List, [], ◌∷◌, ◌++◌, length, map, take, slice_get, Some, None, Bool, true, false, refl, sym, subst, ap, ◌∙◌, append_assoc, append-nil, length-append, zero-add, arith, All, sum_by}
 use Rattle.std.specs.Prelude.{nat_lt, not, filter, cond, if◌then◌else◌}
+use Rattle.std.specs.Prelude.{Result, Ok, Err}
+use Rattle.std.specs.declared.alloc.AllocError.{AllocError}
+use Rattle.std.specs.Result.{IfOk}
 use Rattle.std.specs.Int.{from_bool}
 use Rattle.std.specs.List.{AllByRecursion, flat_map, enumerate_from}
 use Rattle.std.proofs.lemmas.Grind.{flat_map-append}
@@ -9,7 +12,8 @@ use Rattle.std.proofs.lemmas.List.{map-append, length-map}
 use Rattle.std.proofs.lemmas.List.Sums.{sum_by-cons, sum_by_push}
 use Rattle.std.proofs.lemmas.Option.{get_or_from_slice_get, slice_get-get_or, slice_get_within}
 use Rattle.std.proofs.lemmas.Bool.Decides.{nat_tests}
-use Rattle.netlist_spec.specs.Netlist.{Name, Row, stands_in, Clocking, plain, edge, Cover, Statement, names, latch, Port, Located, Model}
+use Rattle.netlist_spec.specs.Netlist.{Name, Row, stands_in, Clocking, plain, edge, Cover, Statement, names, latch, Port, Located, Model, File}
+use Rattle.netlist_spec.specs.FileRules.{IsFile}
 use Rattle.netlist_spec.specs.Reads.{first_appearances, control_nets, statement_nets}
 use Rattle.netlist_spec.specs.Covers.{has_bit}
 use Rattle.netlist_spec.specs.Gates.{GateForm, constant, one, two, LatchRow, gate_reads, gate_cover, gate_rows, pair_row}
@@ -24,7 +28,8 @@ use Rattle.blif_read.specs.declared.file.Statement.{Statement as ReadStatement}
 use Rattle.blif_read.specs.declared.file.Statement.TheVariants.{Names, Latch, Subckt}
 use Rattle.blif_read.specs.Ids.{IsIdOf, control_ids, ids_in}
 use Rattle.imp_text.specs.Names.{with_name}
-use Rattle.blif_read.specs.View.{name_at, port_of, model_of, clocking_of, cover_of, statement_of, located_of}
+use Rattle.blif_read.specs.declared.file.File.{File as ReadFile}
+use Rattle.blif_read.specs.View.{file_of, name_at, port_of, model_of, clocking_of, cover_of, statement_of, located_of}
 use Rattle.imp_text.proofs.NamesLemmas.{slice_get-append_left}
 use Rattle.blif_read.specs.Spelled.{with_names, AreNumbers, Spells, SpellsEach}
 use Rattle.blif_write.specs.Numbers.{ports_numbered, latch_of, names_of, latch_with, gate_with, statement_at}
@@ -324,3 +329,8 @@ same-model a a' b b' i i' o o' c c' s s' ea eb ei eo ec es =
     ∙ ap (λ (x : List Port). model_with a' b' i' x c s) eo
     ∙ ap (λ (x : List Port). model_with a' b' i' o' x s) ec
     ∙ ap (λ (x : List Located). model_with a' b' i' o' c' x) es
+
+-- what holds of the file that is meant holds of the file that is made
+pub file-where : (made : Result ReadFile AllocError) (file : File) → IsFile file → IfOk made (λ f. file_of f ≡ file) → IfOk made (λ f. IsFile (file_of f))
+file-where (Ok f) file is same = subst IsFile (sym same) is
+file-where (Err e) file is same = tt

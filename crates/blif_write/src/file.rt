@@ -2,6 +2,7 @@
 ghost use Rattle.std.specs.Prelude.{◌≡◌, ◌+◌, ◌*◌, ◌^◌, ◌<◌, ◌≤◌, List, [], ◌∷◌, ◌++◌, length, All, IfOk, OnOk};
 ghost use Rattle.std.specs.List.{flat_map};
 ghost use Rattle.netlist_spec.specs.Gates.{ReadsBelow};
+ghost use Rattle.netlist_spec.specs.FileRules.{IsFile};
 ghost use Rattle.netlist_spec.specs.Netlist.{Name as Bytes};
 ghost use Rattle.netlist_spec.specs.Reads.{control_nets, statement_nets};
 ghost use Rattle.netlist_spec.specs.Written.{IsNamed, file_of as named_file, gate_statements, latch_statements, line_count as count_of, statements_from};
@@ -25,6 +26,7 @@ use std::alloc::{AllocError, Global};
 /// The file that the text of the gate list says.
 pub fn as_file(alloc: Global, g: &Named) -> Result<File, AllocError>
     ensures file { IfOk result (λ file. file_of file ≡ named_file g.now) }
+    ensures is_file { IfOk result (λ file. IsFile (file_of file)) }
     ensures ids { IfOk result (λ file. All HasIds file.models.items) }
     ensures is_named { IsNamed g.now }
     ensures reading { IsOneReading (text_of g.now.unknown_inits (named_file g.now)) (named_file g.now) }

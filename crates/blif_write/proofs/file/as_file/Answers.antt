@@ -4,12 +4,14 @@ use Rattle.std.specs.List.{AllByRecursion, flat_map}
 use Rattle.std.proofs.lemmas.List.{length-map}
 use Rattle.netlist_spec.specs.Netlist.{Name, IsName, Model}
 use Rattle.netlist_spec.specs.Reads.{first_appearances, statement_nets}
-use Rattle.netlist_spec.specs.Written.{Named, IsNamed, net_name, output_names, ports_from, latch_statements, gate_statements, statements_from}
+use Rattle.netlist_spec.specs.Text.{text_of}
+use Rattle.netlist_spec.specs.Written.{Named, IsNamed, file_of as named_file, net_name, output_names, ports_from, latch_statements, gate_statements, statements_from}
 use Rattle.gate_net.specs.Gate.{net_number}
 use Rattle.blif_read.specs.View.{file_of, located_of, model_of, name_at, port_of}
 use Rattle.blif_read.specs.declared.file.Model.{Model as ReadModel}
 use Rattle.blif_write.specs.Numbers.{ports_numbered}
-use Rattle.blif_write.proofs.FileLemmas.{all-names, is-small, later-three, later-two, names-long, ports-at, same-model, statements-at}
+use Rattle.netlist_spec.proofs.ReadFiles.{reads_file}
+use Rattle.blif_write.proofs.FileLemmas.{all-names, file-where, is-small, later-three, later-two, names-long, ports-at, same-model, statements-at}
 use Rattle.named_netlist.proofs.WrittenModel.{written_model}
 use Rattle.named_netlist.proofs.NamedReads.{texts-are-read}
 use Rattle.named_netlist.proofs.NetLemmas.{clocks-are, inputs-are, outputs-here}
@@ -550,3 +552,9 @@ returns-in_err-clocks-2-clause-reading c = texts-are-read c.args.g.now (subst Is
 
 pub returns-clause-reading : goal.returns-clause-reading
 returns-clause-reading c = texts-are-read c.args.g.now (subst IsNamed c.g.view_is c.g.invariant.named)
+
+-- The text of the gate list is read as this file, and what is read is a file.
+pub returns-clause-is_file : goal.returns-clause-is_file
+returns-clause-is_file c =
+    let reading = texts-are-read c.args.g.now (subst IsNamed c.g.view_is c.g.invariant.named) in
+    file-where c.file_of_parts.result (named_file c.args.g.now) (reads_file (text_of c.args.g.now.unknown_inits (named_file c.args.g.now)) (named_file c.args.g.now) reading.reads) (returns-clause-file c)
