@@ -66,6 +66,13 @@ pub record IsInOrder (files : FilesSeen) : Type 0 where
   pub faults_small : files.faults < 2 ^ 64
   pub taken_small : files.taken < 2 ^ 64
 
+-- a fact, unless the load answered Failed
+abbrev pub UnlessFailed : Result (Vec ℕ Global) LoadFault → Type 0 → Type 0
+UnlessFailed (Ok bytes) P = P
+UnlessFailed (Err Failed) P = ⊤
+UnlessFailed (Err TooLong) P = P
+UnlessFailed (Err NoMemory) P = P
+
 -- a load of the file of that name, of at most so many bytes, with that answer
 pub record Loads (old : FilesSeen) (name : List ℕ) (most : ℕ) (result : Result (Vec ℕ Global) LoadFault) (new : FilesSeen) : Type 0 where
   -- What is given is the whole contents.
@@ -78,7 +85,8 @@ pub record Loads (old : FilesSeen) (name : List ℕ) (most : ℕ) (result : Resu
   pub too_long_file : IsErrOf result TooLong → IsSome old.told → IsSomeAnd (bytes_at old.told name) (λ bytes. most < length bytes)
   -- It is the answer there, want of memory aside, if no fault came.
   pub too_long_there : IsSomeAnd (bytes_at old.told name) (λ bytes. most < length bytes) → Stayed old.faults new.faults → IsErrOf result TooLong ⊎ IsErrOf result NoMemory
-  -- No other name's own count changes.
+  -- Its own count counts the loads that answer Failed and no others, and no other name's own count changes.
+  pub same_own : UnlessFailed result (own_count new.told name ≡ own_count old.told name)
   pub same_others : (other : List ℕ) → other ≢ name → own_count new.told other ≡ own_count old.told other
 
 -- Files after some loads: names and bytes are the same, so each name has its bytes, and no count has fallen.

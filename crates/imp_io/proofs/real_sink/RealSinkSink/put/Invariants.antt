@@ -1,5 +1,5 @@
 -- What is gone from `rest` was appended, and no fault was counted.
-use Rattle.std.proofs.Common.{◌≡◌, ◌≤◌, List, ℕ, ◌++◌, length}
+use Rattle.std.proofs.Common.{◌≡◌, List, ℕ, ◌++◌, length}
 use Rattle.std.specs.Io.KnownBytes.{Appends}
 use Rattle.imp_io.proofs.real_sink.RealSinkSink.put.Given as goal
 
