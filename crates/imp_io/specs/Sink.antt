@@ -1,6 +1,7 @@
 -- What is known of what text is put to, and what a put does.
-use Rattle.std.specs.Prelude.{◌≡◌, ℕ, ◌^◌, ◌<◌, ◌≤◌, List, ◌++◌, Result, Ok, Err, OnOk, OnErr, IsErrOf}
+use Rattle.std.specs.Prelude.{◌≡◌, ℕ, ◌^◌, ◌<◌, ◌≤◌, List, ◌++◌, Result, Ok, Err, None, Some, OnOk, OnErr, IsErrOf}
 use Rattle.std.specs.Io.KnownBytes.{Appends}
+use Rattle.std.specs.Borrow.{Bor}
 use Rattle.std.specs.declared.option.Option.{Option}
 use Rattle.imp_io.specs.declared.fault.SinkFault.{SinkFault}
 use Rattle.imp_io.specs.declared.fault.SinkFault.TheVariants.{Failed, NoMemory}
@@ -34,8 +35,18 @@ pub record Puts {T : Type 0} (old : SinkSeen) (text : List ℕ) (result : Result
   pub faults_stay : old.faults ≤ new.faults
   pub denied_stays : old.denied ≤ new.denied
 
+-- a text that is put in one piece, unless a put has failed before; the faults are the first so far
+abbrev pub PutsOnce : Option SinkFault → SinkSeen → List ℕ → Option SinkFault → SinkSeen → Type 0
+PutsOnce (Some fault) old text now new = (now ≡ Some fault) × (new ≡ old)
+PutsOnce None old text None new = Puts {T = Unit {0}} old text (Ok tt) new
+PutsOnce None old text (Some fault) new = Puts {T = Unit {0}} old text (Err fault) new
+
 -- the count of faults after a put that counts nothing but its own failure
 abbrev pub faults_after : {T : Type 0} → ℕ → Result T SinkFault → ℕ
 faults_after faults (Ok _) = faults
 faults_after faults (Err Failed) = raised_by faults 1
 faults_after faults (Err NoMemory) = faults
+
+-- the bytes of a piece
+abbrev pub bytes_of : Bor (List ℕ) → List ℕ
+bytes_of piece = piece.now
