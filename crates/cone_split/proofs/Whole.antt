@@ -1,5 +1,7 @@
 -- A copied cone and what follows it, as one range.
-use Rattle.std.proofs.Common.{◌≡◌, sym, ◌∙◌, ap, subst, refl, ℕ, zero, suc, ◌+◌, ◌-◌, ◌==◌, ◌<◌, ◌≤◌, ◌^◌, ◌⊎◌, inl, inr, Bool, true, false, List, [], ◌∷◌, ◌++◌, length, map, drop, get_or, Contains, arith, Some, slice_get, Ok, Err, Result, IfOk, OnOk}
+use Rattle.std.proofs.Common.{◌≡◌, sym, ◌∙◌, ap, subst, refl, ℕ, zero, suc, ◌+◌, ◌-◌, ◌==◌, ◌<◌, ◌≤◌, ◌^◌, ◌⊎◌, inl, inr, Bool, true, false, List, [], ◌∷◌, ◌++◌, length, map, drop, get_or, Contains, arith, Some, slice_get, Ok, Err, Result, IfOk, OnOk, if◌then◌else◌, ne_eqb}
+use Rattle.std.specs.Prelude.{nat_lt}
+use Rattle.std.proofs.lemmas.Bool.{ltb-true, ltb-false}
 use Rattle.std.specs.declared.alloc.AllocError.{AllocError}
 use Rattle.std.specs.List.{AllByRecursion, AllZip}
 use Rattle.std.proofs.lemmas.Option.{slice_get_within, slice_get-get_or}
@@ -9,14 +11,14 @@ use Rattle.netlist_spec.specs.Gates.{GateForm, GateList, IsGateList, AnswersWith
 use Rattle.netlist_spec.specs.GateRanges.{Region, LiesIn, LeadsToEnd, is_end, is_read as leads_on}
 use Rattle.gate_net.specs.declared.gate.NetId.{NetId}
 use Rattle.gate_net.specs.GateNet.{net_count}
-use Rattle.cone_split.specs.Cones.{IsInCone, is_root, is_read, HasRoom}
+use Rattle.cone_split.specs.Cones.{IsInCone, is_root, is_read, HasRoom, IsConeSize, xor_count}
 use Rattle.cone_split.specs.Copies.{AreConeOf, HasImage, IsImage, AreCopied, sum_gates}
 use Rattle.cone_split.specs.Ranges.{IsAppended, IsCopy}
 use Rattle.cone_split.proofs.Cells.{contains_head, contains_cases, contains_at, at_contains, lt_eq_gt, all_contains, all_from_contains, rises_above, rises_apart}
 use Rattle.cone_split.proofs.Copied.{net_reads_below, zip_length, zip_left}
 use Rattle.cone_split.proofs.Leads.{reads_alone, all_lead}
 use Rattle.cone_split.proofs.Ranges.{get_right, longer, longer_count, behind_answers, behind_reads}
-use Rattle.cone_split.proofs.Sizes.{cells_size}
+use Rattle.cone_split.proofs.Sizes.{cells_size, one_size}
 use Rattle.cone_split.proofs.Sums.{sum_reads, sum_chain, sum_each, sum_length, sum_value}
 use Rattle.cone_split.proofs.Values.{all_image_bits}
 
@@ -197,3 +199,56 @@ cells_count src leaf cells ns first old new hs is copied =
     let l = length-append old.gates hs in
     let e = ap net_count is in
     omega arith
+
+-- ---- how many gates the copy takes
+
+-- a single root whose cone has gates is a gate
+root_takes_none : (src : GateList) (roots cells : List ℕ) → IsGateList src → AreConeOf src roots cells → length roots ≡ 1 → 0 < length cells → xor_count src roots ≡ 0
+root_takes_none src [] cells well cone one some = absurd (omega arith)
+root_takes_none src (root ∷ []) cells well cone one some =
+    let first = get_or cells 0 0 in
+    let there = contains_at cells 0 first (slice_get-get_or cells 0 0 some) in
+    let low = rises_above src.leaves cells first cone.all.rise there in
+    let high = cone_below src root first well (cone.alone first there) in
+    by_test (nat_lt root src.leaves) refl (omega arith)
+  where
+    by_test : (b : Bool) → nat_lt root src.leaves ≡ b → src.leaves ≤ root → let n : ℕ = if b then 1 else 0 in n ≡ 0
+    by_test true test h = absurd (let below = ltb-true root src.leaves test in omega arith)
+    by_test false test h = refl
+root_takes_none src (root ∷ other ∷ roots) cells well cone one some = absurd (omega arith)
+
+sum_takes : (src : GateList) (roots cells : List ℕ) → AreConeOf src roots cells → (length roots ≡ 1 → length cells ≡ 0) → xor_count src roots ≡ length roots - 2 + 1
+sum_takes src [] cells cone none = refl
+sum_takes src (root ∷ []) cells cone none = by_test (nat_lt root src.leaves) refl
+  where
+    by_test : (b : Bool) → nat_lt root src.leaves ≡ b → let n : ℕ = if b then 1 else 0 in n ≡ 1
+    by_test true test = refl
+    by_test false test =
+        let there = cone.roots_in root (contains_head root []) (ltb-false root src.leaves test) in
+        let inside = there.1 in
+        let empty : length cells ≡ 0 = none refl in
+        absurd (omega arith)
+sum_takes src (root ∷ other ∷ roots) cells cone none = omega arith
+
+pub root_count : (src : GateList) (roots cells : List ℕ) (old new : GateList) → IsGateList src → AreConeOf src roots cells → length roots ≡ 1 → 0 < length cells → net_count new ≡ net_count old + length cells
+    → (size : ℕ) → IsConeSize src roots size → net_count new ≡ net_count old + size + xor_count src roots
+root_count src roots cells old new well cone one some count size is =
+    let same = one_size src roots size (length cells) is (cells_size src roots cells cone) in
+    let none = root_takes_none src roots cells well cone one some in
+    omega arith
+
+pub sum_count : (src : GateList) (roots cells nets : List ℕ) (old middle new : GateList) (r : Result NetId AllocError) → AreConeOf src roots cells → (length roots ≡ 1 → length cells ≡ 0) → length roots ≡ length nets → net_count middle ≡ net_count old + length cells
+    → OnOk r (new ≡ record middle { gates = middle.gates ++ sum_gates (net_count middle) nets }) → OnOk r ((size : ℕ) → IsConeSize src roots size → net_count new ≡ net_count old + size + xor_count src roots)
+sum_count src roots cells nets old middle new (Err e) cone none long count more = tt
+sum_count src roots cells nets old middle new (Ok n) cone none long count more = λ size is.
+    let same = one_size src roots size (length cells) is (cells_size src roots cells cone) in
+    let takes = sum_takes src roots cells cone none in
+    let whole = ap net_count more in
+    let joined = length-append middle.gates (sum_gates (net_count middle) nets) in
+    let sum = sum_length (net_count middle) nets in
+    let behind = length-drop 2 nets in
+    omega arith
+
+pub is_zero : (n : ℕ) (empty : Bool) → empty ≡ (n == 0) → empty ≡ true → n ≡ 0
+is_zero zero empty e f = refl
+is_zero (suc n) empty e f = let clash : false ≡ true = sym (ne_eqb (suc n) 0 (λ (z : suc n ≡ 0). absurd (omega arith))) ∙ (sym e ∙ f) in cc clash

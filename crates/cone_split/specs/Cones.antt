@@ -1,5 +1,5 @@
 -- The cone of some nets of a gate list, and its size.
-use Rattle.std.specs.Prelude.{◌≡◌, ℕ, ◌+◌, ◌≤◌, ◌^◌, Bool, List, length, Contains}
+use Rattle.std.specs.Prelude.{◌≡◌, ℕ, ◌+◌, ◌≤◌, ◌^◌, Bool, List, [], ◌∷◌, length, Contains, nat_lt, if◌then◌else◌}
 use Rattle.std.specs.List.{range_with_len}
 use Rattle.netlist_spec.specs.Gates.{GateList, ReadsNet}
 use Rattle.netlist_spec.specs.Cones.{AreMarked, marked_sum}
@@ -19,3 +19,10 @@ IsConeSize net roots size =
 -- A gate list has room for a copy of the cone, a gate for each root and one gate more.
 abbrev pub HasRoom : GateList → List ℕ → GateList → Type 0
 HasRoom src roots dst = (size : ℕ) → IsConeSize src roots size → net_count dst + size + length roots + 1 ≤ 2 ^ 23
+
+-- How many gates the xor of some roots takes behind their cone: none for a single root that is a gate, a copy for one
+-- that is a leaf, and a constant where there are no roots.
+abbrev pub xor_count : GateList → List ℕ → ℕ
+xor_count net [] = 1
+xor_count net (root ∷ []) = if nat_lt root net.leaves then 1 else 0
+xor_count net (root ∷ other ∷ roots) = 1 + length roots

@@ -1,10 +1,10 @@
 // A cone copied into a range of its own.
-ghost use Rattle.std.specs.Prelude.{◌≡◌, ◌+◌, ◌^◌, ◌<◌, ◌≤◌, ◌++◌, List, length, map, OnOk, OnErr, IfOk};
+ghost use Rattle.std.specs.Prelude.{◌≡◌, ℕ, ◌+◌, ◌^◌, ◌<◌, ◌≤◌, ◌++◌, List, length, map, OnOk, OnErr, IfOk};
 ghost use Rattle.std.specs.List.{AllByRecursion, AllZip, range_with_len};
 ghost use Rattle.netlist_spec.specs.Gates.{GateForm, IsGateList, gate_reads};
 ghost use Rattle.gate_net.specs.Gate.{gate_form, net_number};
 ghost use Rattle.gate_net.specs.GateNet.{net_count};
-ghost use Rattle.cone_split.specs.Cones.{HasRoom};
+ghost use Rattle.cone_split.specs.Cones.{HasRoom, IsConeSize, xor_count};
 ghost use Rattle.cone_split.specs.Copies.{AreClosed, AreConeOf, AreCopied, HasImage, IsImage, IsSameOver, Rises};
 ghost use Rattle.cone_split.specs.Ranges.{IsCopy, KeepsGates};
 ghost use Rattle.cone_split.specs.Whole.{IsCopyOfAll};
@@ -31,6 +31,8 @@ pub fn copy_xor(
     ensures kept { KeepsGates dst.old dst.new }
     ensures copy { IfOk result
         (λ n. IsCopy src.now (map net_number roots.now) (map net_number leaf.now) dst.old dst.new n.0) }
+    ensures count { OnOk result ((size : ℕ) → IsConeSize src.now (map net_number roots.now) size
+        → net_count dst.new ≡ net_count dst.old + size + xor_count src.now (map net_number roots.now)) }
 {
     let cells = gates_of(alloc, src, roots)?;
     let first = dst.len();
