@@ -1,15 +1,16 @@
 //! A small guard meets the premises of the laws of guards.
 
-ghost use Rattle.std.specs.Prelude.{List};
-ghost use Rattle.netlist_spec.specs.Netlist.{Name};
+ghost use Rattle.std.specs.Prelude.{◌++◌};
+ghost use Rattle.netlist_spec.specs.Written.{output_names};
 ghost use Rattle.named_netlist.specs.Laws.{HasNumberedInner};
 ghost use Rattle.spec_examples.specs.Toggle.{toggle_named};
+ghost use Rattle.guard_laws.specs.Named.{stored_names};
 ghost use Rattle.guard_laws.specs.Texts.{IsGuardFrom};
 ghost use Rattle.spec_examples.specs.Examples.{inverter_file, parity_settings};
 
-/// No list of names lets the gates of a guard be called named or inner.
-pub fn guards_have_no_numbered_inner()
-    ensures { (named : List Name) → HasNumberedInner toggle_named named → ⊥ }
+/// The gates of a guard are outputs, nets that latches store, and inner nets with numbers.
+pub fn guards_have_numbered_inner()
+    ensures { HasNumberedInner toggle_named (output_names toggle_named ++ stored_names toggle_named) }
 {}
 
 /// The premises hold of the guard of the register that turns its bit.

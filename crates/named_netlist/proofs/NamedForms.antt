@@ -8,7 +8,7 @@ use Rattle.std.proofs.lemmas.List.FromFn.{length-map-range_with_len}
 use Rattle.netlist_spec.specs.Netlist.{Name, same_name, stands_in, is_reserved}
 use Rattle.netlist_spec.specs.Models.{main_model, Gate, gates_of}
 use Rattle.netlist_spec.specs.Gates.{GateForm, constant, one, two, gate_reads}
-use Rattle.netlist_spec.specs.GuardNames.{inner_name}
+use Rattle.netlist_spec.specs.GuardNames.{store_name, next_name, check_name, rail_name, inner_name}
 use Rattle.netlist_spec.specs.Written.{Named, IsNamed, Label, given, store, next, check, rail, inner, label_name, net_name, file_of}
 use Rattle.netlist_spec.specs.WrittenForm.{HasGateForm, inner_outputs, HasWrittenForm}
 use Rattle.netlist_spec.proofs.Occurrences.{turn}
@@ -41,25 +41,28 @@ module _ (g : Named) where
   dropped (suc k) [] = refl
   dropped (suc k) (l ∷ ls) = dropped k ls
 
+  -- a named net is left out
+  left_out : (named : List Name) (n : Name) (ns kept_names : List Name) → stands_in n named ≡ true → filter (λ k. not (stands_in k named)) ns ≡ kept_names → filter (λ k. not (stands_in k named)) (n ∷ ns) ≡ kept_names
+  left_out named n ns kept_names stands rest = by_test (stands_in n named) stands
+    where
+      by_test : (b : Bool) → b ≡ true → cond (not b) (n ∷ filter (λ k. not (stands_in k named)) ns) (filter (λ k. not (stands_in k named)) ns) ≡ kept_names
+      by_test true e = rest
+      by_test false e = cc e
+
   -- which labels of gates are none of the named nets
   kept : (named : List Name) (ls : List Label) → AllByRecursion (IsNamedOrInner named) ls → filter (λ n. not (stands_in n named)) (map label_name ls) ≡ map label_name (filter is_inner ls)
   kept named [] h = refl
-  kept named (given n ∷ ls) h = by_test (stands_in n named) h.0 (kept named ls h.1)
-    where
-      by_test : (b : Bool) → b ≡ true → filter (λ n. not (stands_in n named)) (map label_name ls) ≡ map label_name (filter is_inner ls)
-          → cond (not b) (n ∷ filter (λ n. not (stands_in n named)) (map label_name ls)) (filter (λ n. not (stands_in n named)) (map label_name ls)) ≡ map label_name (filter is_inner ls)
-      by_test true e rest = rest
-      by_test false e rest = cc e
+  kept named (given n ∷ ls) h = left_out named n (map label_name ls) (map label_name (filter is_inner ls)) h.0 (kept named ls h.1)
+  kept named (store w i ∷ ls) h = left_out named (store_name w i) (map label_name ls) (map label_name (filter is_inner ls)) h.0 (kept named ls h.1)
+  kept named (next w i ∷ ls) h = left_out named (next_name w i) (map label_name ls) (map label_name (filter is_inner ls)) h.0 (kept named ls h.1)
+  kept named (check w j ∷ ls) h = left_out named (check_name w j) (map label_name ls) (map label_name (filter is_inner ls)) h.0 (kept named ls h.1)
+  kept named (rail i ∷ ls) h = left_out named (rail_name i) (map label_name ls) (map label_name (filter is_inner ls)) h.0 (kept named ls h.1)
   kept named (inner i ∷ ls) h = by_test (not (stands_in (inner_name i) named)) h.0 (kept named ls h.1)
     where
       by_test : (b : Bool) → b ≡ true → filter (λ n. not (stands_in n named)) (map label_name ls) ≡ map label_name (filter is_inner ls)
           → cond b (inner_name i ∷ filter (λ n. not (stands_in n named)) (map label_name ls)) (filter (λ n. not (stands_in n named)) (map label_name ls)) ≡ inner_name i ∷ map label_name (filter is_inner ls)
       by_test true e rest = ap (λ (l : List Name). inner_name i ∷ l) rest
       by_test false e rest = cc e
-  kept named (store w i ∷ ls) h = absurd h.0
-  kept named (next w i ∷ ls) h = absurd h.0
-  kept named (check w j ∷ ls) h = absurd h.0
-  kept named (rail i ∷ ls) h = absurd h.0
 
   inner_names : (is : List ℕ) → map label_name (map (λ i. inner i) is) ≡ map inner_name is
   inner_names [] = refl

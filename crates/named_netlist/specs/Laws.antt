@@ -5,7 +5,7 @@ use Rattle.netlist_spec.specs.Netlist.{Name, stands_in}
 use Rattle.netlist_spec.specs.Runs.{Fault}
 use Rattle.netlist_spec.specs.Gates.{NetFault}
 use Rattle.netlist_spec.specs.GuardNames.{inner_name}
-use Rattle.netlist_spec.specs.Written.{Label, given, inner, label_name, Named, net_name}
+use Rattle.netlist_spec.specs.Written.{Label, inner, label_name, Named, net_name}
 use Rattle.gate_net.specs.GateNet.{net_count}
 
 -- a fault of a net, by the name of the net
@@ -23,11 +23,10 @@ AreOfNets g faults = AllByRecursion (λ a. a.cell < net_count g.net) faults
 abbrev pub faults_of_nets : Named → List Fault → List Fault
 faults_of_nets g faults = filter (λ a. stands_in a.cell (map label_name g.labels)) faults
 
--- A label is given, and then its name is among these, or it is an inner one, whose name is not.
+-- The name of an inner label is none of these, and the name of every other label is one of them.
 abbrev pub IsNamedOrInner : List Name → Label → Type 0
-IsNamedOrInner named (given n) = IsTrue (stands_in n named)
 IsNamedOrInner named (inner i) = IsTrue (not (stands_in (inner_name i) named))
-IsNamedOrInner named _ = ⊥
+IsNamedOrInner named label = IsTrue (stands_in (label_name label) named)
 
 abbrev pub is_inner : Label → Bool
 is_inner (inner i) = true
