@@ -12,7 +12,7 @@ use Rattle.guard_laws.specs.Promised.{IsGuardOf, cell_count}
 use Rattle.correction_laws.specs.Few.{IsFew}
 use Rattle.guard_laws.specs.Within.{IsMadeWithin}
 use Rattle.correction_laws.proofs.Few.{few_cells}
-use Rattle.guard_laws.proofs.Within.{covers, separate, answers_alone, rails_alone}
+use Rattle.guard_laws.proofs.Within.{covers, separate, reads_data, answers_alone, rails_alone}
 
 pub guard_of : (g : Guarded) (source : Machine) (code : Code) (mode : Mode) (radius rails : ℕ) (l : Layout) (watched : List ℕ) → IsMadeWithin g source code mode radius l watched (SomeNoCodeword g code l (length source.outputs)) → g.rails ≡ rails
     → map (λ r. r.init) g.machine.latches ≡ codewords code l.state (map (λ r. r.init) source.latches) → ((n : ℕ) → IsMachineSizeWith source code mode radius rails l n → cell_count g ≤ n) → IsGuardOf g source code mode radius rails l
@@ -23,6 +23,7 @@ guard_of g source code mode radius rails l watched is many inits size =
       own_nets = is.own_nets;
       covers = covers g source code mode radius l watched Bad is;
       separate = separate g source code mode radius l watched Bad is;
+      reads = reads_data g source code mode radius l watched Bad is;
       outputs = is.outputs;
       rail_number = many;
       inits = inits;

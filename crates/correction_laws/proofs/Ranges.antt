@@ -33,6 +33,7 @@ pub range_stays : (net : GateList) (more : List GateForm) (inputs latches : ℕ)
     → IsRangeWithin (record net { gates = net.gates ++ more }) inputs latches source code mode radius l r
 range_stays net more inputs latches source code mode radius l r high is = record {
   reads = λ n k lies reads. is.reads n k lies (reads_shorter net more n k (let b = lies.1 in omega arith) reads);
+  reads_data = λ e n k lies reads. is.reads_data e n k lies (reads_shorter net more n k (let b = lies.1 in omega arith) reads);
   leads = all_lead_longer net more r is.leads;
   value = λ last v u s e answers long near evaluation. is.value last v u s e (front net more r.first r.end v answers) long near evaluation;
 }
@@ -59,6 +60,7 @@ module _ (source : Machine) (code : Code) (l : Layout) (t k : ℕ) (joined : Gat
     pub copy_range : IsJoinedCopy source code l joined correctors nets first bit old new last → IsRangeWithin new source.inputs (latches_of_words code l.state) source code correct t l (range_of bit old new)
     copy_range c = record {
       reads = λ n m lies net. elim (c.copy.reads (range_of bit old new) (record { first = refl; end = refl }) n m lies net) [ inl d ↦ inl (let h = range_below 0 joined.leaves m d in omega arith) | inr d ↦ inr d ];
+      reads_data = λ e. absurd (cc e);
       leads = c.copy.leads (range_of bit old new) (record { first = refl; end = refl });
       value = λ p v w s e answers long near evaluation.
           let one : p ≡ last = let a = c.copy.is_last in omega arith in
@@ -73,6 +75,7 @@ module _ (source : Machine) (code : Code) (l : Layout) (t k : ℕ) (joined : Gat
     pub check_range : IsJoinedCheck source code l joined correctors nets first bit old new last → IsRangeWithin new source.inputs (latches_of_words code l.state) source code correct t l (range_of bit old new)
     check_range c = record {
       reads = λ n m lies net. elim (c.copy.reads (range_of bit old new) (record { first = refl; end = refl }) n m lies net) [ inl d ↦ inl (let h = range_below 0 joined.leaves m d in omega arith) | inr d ↦ inr d ];
+      reads_data = λ e. absurd (cc e);
       leads = c.copy.leads (range_of bit old new) (record { first = refl; end = refl });
       value = λ p v w s e answers long near evaluation.
           let one : p ≡ last = let a = c.copy.is_last in omega arith in

@@ -10,7 +10,10 @@ use Rattle.netlist_spec.specs.Gates.{Machine}
 use Rattle.guard_spec.specs.Codes.{Code, IsCode, checks_of, encoded, detect}
 use Rattle.guard_spec.specs.Words.{Words, Layout, IsPartition, bits_at}
 use Rattle.guard_spec.specs.Count.{StateWordsAre, IsNear}
-use Rattle.guard_spec.specs.Regions.{Guarded}
+use Rattle.guard_spec.specs.Regions.{Guarded, IsDataNet}
+use Rattle.std.proofs.lemmas.Option.{same_Some}
+use Rattle.std.proofs.lemmas.List.Elements.{Contains-append_cases}
+use Rattle.cone_split.proofs.Cells.{contains_cases, at_contains}
 use Rattle.containment.proofs.Counting.{number, number_counts, number_append, range_as_map}
 use Rattle.guard_laws.specs.Places.{latches_of_words, AreDataPlaces}
 use Rattle.guard_laws.specs.Rows.{StandForLeaves}
@@ -103,12 +106,49 @@ module _ (code : Code) (is_code : IsCode code) (words : Words) (inputs n k count
   pub data_bits : map v nets ≡ s
   data_bits = ext_get_or false (map v nets) s (length-map nets v ∙ are.count ∙ sym long) (λ j h. bit_right j (let e = length-map nets v in let f = are.count in omega arith))
 
+input_below : (a n k : ℕ) → Contains (range_with_len a n) k → k < a + n
+input_below a zero k c = absurd (let h = c.1 in omega arith)
+input_below a (suc n) k c = by_part (input_below (a + 1) n k) (contains_cases a k (range_with_len (a + 1) n) c)
+  where
+    by_part : (Contains (range_with_len (a + 1) n) k → k < (a + 1) + n) → (a ≡ k) ⊎ Contains (range_with_len (a + 1) n) k → k < a + suc n
+    by_part later (inl e) = omega arith
+    by_part later (inr d) = let h = later d in omega arith
+
+-- a place of a word is a data net
+data_net : (code : Code) (before after : Words) (w : List ℕ) (first p : ℕ) → p < length w → IsDataNet code first (before ++ w ∷ after) (first + (latches_of_words code before + p))
+data_net code [] after w first p h = inl (omega arith, omega arith)
+data_net code (b ∷ before) after w first p h =
+    let s = sum_by-cons (λ w. length w + code.columns) b before in
+    inr (subst (λ (k : ℕ). IsDataNet code (first + length b + code.columns) (before ++ w ∷ after) k)
+    (let e : (first + length b + code.columns) + (latches_of_words code before + p) ≡ first + (latches_of_words code (b ∷ before) + p) = omega arith in e)
+    (data_net code before after w (first + length b + code.columns) p h))
+
+module _ (code : Code) (words : Words) (inputs n k : ℕ) (nets : List ℕ) (are : AreDataPlaces code words inputs n nets) (partition : IsPartition n k words) where
+  data_place : (j net : ℕ) → slice_get nets j ≡ Some net → IsDataNet code inputs words net
+  data_place j net at =
+      let h : j < n = let a = inside nets j net at in let c = are.count in omega arith in
+      let once : 0 < number (λ i. i == j) (flat_map (λ w. w) words) = let e = partition.each_once j h in let f = number_counts (λ i. i == j) (flat_map (λ w. w) words) in omega arith in
+      let st = stands words j once in
+      let there = are.each st.before st.after st.word st.place j st.split st.at in
+      let same : inputs + (latches_of_words code st.before + st.place) ≡ net = same_Some _ net (sym there ∙ at) in
+      subst (λ (ws : Words). IsDataNet code inputs ws net) (sym st.split)
+      (subst (λ (q : ℕ). IsDataNet code inputs (st.before ++ st.word ∷ st.after) q) same
+      (data_net code st.before st.after st.word inputs st.place (inside st.word st.place j st.at)))
+
+  pub leaf_is_data : (m : ℕ) → Contains (range_with_len 0 inputs ++ nets) m → (m < inputs) ⊎ IsDataNet code inputs words m
+  leaf_is_data m c = by_part (Contains-append_cases (range_with_len 0 inputs) nets m c)
+    where
+      by_part : Contains (range_with_len 0 inputs) m ⊎ Contains nets m → (m < inputs) ⊎ IsDataNet code inputs words m
+      by_part (inl d) = inl (let h = input_below 0 inputs m d in omega arith)
+      by_part (inr d) = let (j, at) = at_contains nets m d in inr (data_place j m at)
+
 -- so inputs and data places stand for the leaves of the source
 module _ (g : Guarded) (source : Machine) (code : Code) (l : Layout) (k : ℕ) (nets : List ℕ) (is_code : IsCode code) (leaves : g.machine.net.leaves ≡ g.machine.inputs + length g.machine.latches) (partition : IsPartition (length source.latches) k l.state)
     (many : length g.machine.latches ≡ latches_of_words code l.state) (are : AreDataPlaces code l.state g.machine.inputs (length source.latches) nets) (within : (n : ℕ) → Contains (range_with_len 0 g.machine.inputs ++ nets) n → n < g.machine.net.leaves) where
   pub stand_for_leaves : StandForLeaves g source code l (range_with_len 0 g.machine.inputs ++ nets)
   stand_for_leaves = record {
     within = within;
+    data_nets = leaf_is_data code l.state g.machine.inputs (length source.latches) k nets are partition;
     bits = λ v s long right. maps_append v (range_with_len 0 g.machine.inputs) nets
         ∙ ap (λ (bs : Bits). map v (range_with_len 0 g.machine.inputs) ++ bs) (data_bits code is_code l.state g.machine.inputs (length source.latches) k (length g.machine.latches) nets are partition many v s long right);
   }

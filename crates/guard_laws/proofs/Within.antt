@@ -8,7 +8,7 @@ use Rattle.netlist_spec.specs.Gates.{Machine, GateStep, AnswersWithin, IsEvaluat
 use Rattle.guard_spec.specs.Codes.{Code, Mode, detect, checks_of}
 use Rattle.guard_spec.specs.Words.{Words, Layout, bits_at, codewords}
 use Rattle.netlist_spec.specs.CellBits.{Bit, latch_bit, output_bit}
-use Rattle.guard_spec.specs.Regions.{Guarded, IsBitNet, IsRegion, CoversGates, IsRailBit, MayRead, AreSeparate}
+use Rattle.guard_spec.specs.Regions.{Guarded, IsBitNet, IsDataNet, IsRegion, CoversGates, IsRailBit, MayRead, AreSeparate, ReadDataAlone}
 use Rattle.netlist_spec.specs.GateRanges.{Region, LiesIn, LeadsToEnd}
 use Rattle.guard_spec.specs.Count.{StateWordsAre, IsNear, right_outputs}
 use Rattle.gate_net.specs.GateNet.{net_count}
@@ -69,6 +69,9 @@ module _ (g : Guarded) (source : Machine) (code : Code) (mode : Mode) (radius : 
       by_kind : (r : Region) (n : ℕ) → Contains g.regions r → IsRailBit g r.bit ⊎ (IsRailBit g r.bit → ⊥) → LiesIn r n → LeadsToEnd g.machine.net r n
       by_kind r n c (inl rail) lies = (is.rails r c rail).leads n lies
       by_kind r n c (inr plain) lies = (is.ranges r c plain).leads n lies
+
+  pub reads_data : mode ≡ detect → ReadDataAlone g code l.state
+  reads_data e r n k c plain lies reads = (is.ranges r c plain).reads_data e n k lies reads
 
   -- one net for a bit
   same_net : (b : Bit) (n k : ℕ) → IsBitNet g b n → IsBitNet g b k → n ≡ k
@@ -134,9 +137,14 @@ detecting g source code radius l leaf watched Bad is = record {
   rails = is.rails;
 }
   where
+    data_or_own : (r : Region) (k : ℕ) → (k < g.machine.inputs) ⊎ IsDataNet code g.machine.inputs l.state k → (k < g.machine.inputs) ⊎ (IsDataNet code g.machine.inputs l.state k ⊎ LiesIn r k)
+    data_or_own r k (inl h) = inl h
+    data_or_own r k (inr h) = inr (inl h)
+
     range : (r : Region) → IsRangeOf g.machine.net leaf source code l r → IsRangeWithin g.machine.net g.machine.inputs (length g.machine.latches) source code detect radius l r
     range r a = record {
       reads = λ n k lies reads. elim (a.reads n k lies reads) [ inl c ↦ inl (is.leaves.within k c) | inr d ↦ inr d ];
+      reads_data = λ e n k lies reads. elim (a.reads n k lies reads) [ inl c ↦ data_or_own r k (is.leaves.data_nets k c) | inr d ↦ inr (inr d) ];
       leads = a.leads;
       value = λ last v u s e answers long near evaluation.
           a.value last v u e answers (subst (λ (bs : Bits). IsEvaluation source.net bs u) (sym (is.leaves.bits v s long near)) evaluation);

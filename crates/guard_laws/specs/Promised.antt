@@ -1,10 +1,10 @@
 -- What the builder of a guard promises of its gate list.
 use Rattle.std.specs.Prelude.{◌≡◌, ℕ, ◌+◌, ◌*◌, ◌≤◌, length, map}
 use Rattle.netlist_spec.specs.Gates.{Machine, IsMachine}
-use Rattle.guard_spec.specs.Codes.{Code, Mode}
+use Rattle.guard_spec.specs.Codes.{Code, Mode, detect}
 use Rattle.guard_spec.specs.Words.{Layout, codewords}
 use Rattle.guard_spec.specs.Plain.{IsMachineSizeWith}
-use Rattle.guard_spec.specs.Regions.{Guarded, CoversGates, HaveOwnNets, AreSeparate}
+use Rattle.guard_spec.specs.Regions.{Guarded, CoversGates, HaveOwnNets, AreSeparate, ReadDataAlone}
 use Rattle.containment.specs.RegionAnswers.{RegionsAnswer, RailsAnswer}
 
 -- latches and gates
@@ -18,6 +18,7 @@ pub record IsGuardOf (g : Guarded) (source : Machine) (code : Code) (mode : Mode
   pub own_nets : HaveOwnNets g source
   pub covers : CoversGates g
   pub separate : AreSeparate g
+  pub reads : mode ≡ detect → ReadDataAlone g code l.state
   pub outputs : length g.machine.outputs ≡ (length source.outputs + length l.output * code.columns) + g.rails
   pub rail_number : g.rails ≡ rails
   pub inits : map (λ r. r.init) g.machine.latches ≡ codewords code l.state (map (λ r. r.init) source.latches)

@@ -6,7 +6,7 @@ use Rattle.netlist_spec.specs.Gates.{GateList, Machine, IsMachine, AnswersWithin
 use Rattle.guard_spec.specs.Codes.{Code, IsCode, detect}
 use Rattle.guard_spec.specs.Words.{Layout, codewords}
 use Rattle.netlist_spec.specs.CellBits.{Bit, latch_bit, output_bit, stands_before}
-use Rattle.guard_spec.specs.Regions.{Guarded, IsBitNet, IsRailBit, HaveOwnNets}
+use Rattle.guard_spec.specs.Regions.{Guarded, IsBitNet, IsDataNet, IsRailBit, HaveOwnNets}
 use Rattle.netlist_spec.specs.GateRanges.{Region}
 use Rattle.guard_spec.specs.Count.{StateWordsAre, IsNear, right_outputs}
 use Rattle.gate_net.specs.GateNet.{net_count}
@@ -35,10 +35,11 @@ abbrev pub AreInRow : ℕ → List Region → ℕ → Type 0
 AreInRow at [] end = at ≡ end
 AreInRow at (r ∷ rs) end = (r.first ≡ at) × (r.first < r.end) × AreInRow r.end rs end
 
--- The nets that stand for the source's leaves are leaves of the guard. Where the state words are right they have the bits of
+-- The nets that stand for the source's leaves are leaves of the guard: data inputs and data places. Where the state words are right they have the bits of
 -- the inputs and of the source's state.
 pub record StandForLeaves (g : Guarded) (source : Machine) (code : Code) (l : Layout) (leaf : List ℕ) : Type 0 where
   pub within : (k : ℕ) → Contains leaf k → k < g.machine.net.leaves
+  pub data_nets : (k : ℕ) → Contains leaf k → (k < g.machine.inputs) ⊎ IsDataNet code g.machine.inputs l.state k
   pub bits : (v : ℕ → Bool) (s : Bits) → length s ≡ length source.latches → StateWordsAre code (IsNear code detect 0 s) l.state (map v (latch_nets g.machine)) 0
       → map v leaf ≡ map v (range_with_len 0 g.machine.inputs) ++ s
 

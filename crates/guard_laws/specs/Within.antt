@@ -3,21 +3,23 @@ use Rattle.std.specs.Prelude.{◌≡◌, ℕ, suc, ◌+◌, ◌*◌, ◌<◌, �
 use Rattle.std.specs.List.{range_with_len}
 use Rattle.netlist_spec.specs.SourceRun.{Bits}
 use Rattle.netlist_spec.specs.Gates.{GateList, Machine, IsMachine, AnswersWithin, IsEvaluation, ReadsNet}
-use Rattle.guard_spec.specs.Codes.{Code, IsCode, Mode}
+use Rattle.guard_spec.specs.Codes.{Code, IsCode, Mode, detect}
 use Rattle.guard_spec.specs.Words.{Layout}
 use Rattle.netlist_spec.specs.CellBits.{stands_before}
-use Rattle.guard_spec.specs.Regions.{Guarded, IsBitNet, IsRailBit, HaveOwnNets}
+use Rattle.guard_spec.specs.Regions.{Guarded, IsBitNet, IsDataNet, IsRailBit, HaveOwnNets}
 use Rattle.netlist_spec.specs.GateRanges.{Region, LiesIn}
 use Rattle.guard_spec.specs.Count.{StateWordsAre, IsNear}
 use Rattle.gate_net.specs.GateNet.{net_count}
 use Rattle.cone_split.specs.Ranges.{AllLead}
 use Rattle.guard_laws.specs.Rows.{right_bit, AreInRow, IsRailRange}
 
--- A range of a list whose leaves are data inputs and the latches of state words: it reads leaves and itself, and ends with a
+-- A range of a list whose leaves are data inputs and the latches of state words: it reads leaves, in detection no check
+-- places, and itself, and ends with a
 -- gate that has the right bit of the range's bit where the shown state words are near those of the state, whatever bits other
 -- nets have.
 pub record IsRangeWithin (net : GateList) (inputs latches : ℕ) (source : Machine) (code : Code) (mode : Mode) (radius : ℕ) (l : Layout) (r : Region) : Type 0 where
   pub reads : (n k : ℕ) → LiesIn r n → ReadsNet net n k → (k < net.leaves) ⊎ LiesIn r k
+  pub reads_data : mode ≡ detect → (n k : ℕ) → LiesIn r n → ReadsNet net n k → (k < inputs) ⊎ (IsDataNet code inputs l.state k ⊎ LiesIn r k)
   pub leads : AllLead net r
   pub value : (last : ℕ) (v u : ℕ → Bool) (s : Bits) → r.end ≡ suc last → AnswersWithin net r.first r.end v
       → length s ≡ length source.latches → StateWordsAre code (IsNear code mode radius s) l.state (map v (range_with_len inputs latches)) 0

@@ -1,9 +1,11 @@
 -- A guarded machine of gates: its regions, and the one bit of each cell.
-use Rattle.std.specs.Prelude.{◌≡◌, ℕ, suc, ◌+◌, ◌<◌, ◌≤◌, ◌⊎◌, Bool, List, length, map, Some, slice_get, IsTrue, Contains, AllPairs}
+use Rattle.std.specs.Prelude.{◌≡◌, ℕ, suc, ◌+◌, ◌<◌, ◌≤◌, ◌⊎◌, Bool, List, [], ◌∷◌, length, map, Some, slice_get, IsTrue, Contains, AllPairs}
 use Rattle.std.specs.List.{AllByRecursion}
 use Rattle.netlist_spec.specs.Gates.{Machine, ForcedNets, latch_nets, ReadsNet}
 use Rattle.netlist_spec.specs.CellBits.{Bit, latch_bit, output_bit, stands_before}
 use Rattle.netlist_spec.specs.GateRanges.{Region, LiesIn, LeadsToEnd}
+use Rattle.guard_spec.specs.Codes.{Code}
+use Rattle.guard_spec.specs.Words.{Words}
 
 -- A guarded machine. Its outputs include the check outputs and the rails, which stand last.
 pub record Guarded : Type 0 where
@@ -58,6 +60,18 @@ pub record AreSeparate (g : Guarded) : Type 0 where
   pub reads : (r : Region) (n k : ℕ) → Contains g.regions r → LiesIn r n → ReadsNet g.machine.net n k → MayRead g r k
   pub leads : (r : Region) (n : ℕ) → Contains g.regions r → LiesIn r n → LeadsToEnd g.machine.net r n
   pub in_order : AllPairs (λ r s. IsTrue (stands_before r.bit s.bit) × (r.end ≤ s.first)) g.regions
+
+-- The net shows a data place of one of the words, whose places are nets from `first` on: those of the words one behind
+-- the other, and in each word its data places and then its check places.
+abbrev pub IsDataNet : Code → ℕ → Words → ℕ → Type 0
+IsDataNet code first [] k = ⊥
+IsDataNet code first (w ∷ ws) k = ((first ≤ k) × (k < first + length w)) ⊎ IsDataNet code (first + length w + code.columns) ws k
+
+-- In detection regions read data inputs, data places of state words and gates of their own alone. Rails read more.
+abbrev pub ReadDataAlone : Guarded → Code → Words → Type 0
+ReadDataAlone g code words =
+    (r : Region) (n k : ℕ) → Contains g.regions r → (IsRailBit g r.bit → ⊥) → LiesIn r n → ReadsNet g.machine.net n k
+    → (k < g.machine.inputs) ⊎ (IsDataNet code g.machine.inputs words k ⊎ LiesIn r k)
 
 -- ---- the cells of a bit
 

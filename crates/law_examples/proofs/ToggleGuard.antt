@@ -10,6 +10,7 @@ use Rattle.spec_examples.proofs.Inverter.{inverter_plain}
 use Rattle.spec_examples.proofs.SmallMachine.{inverter_is_elaborated}
 use Rattle.spec_examples.specs.Toggle.{toggle, toggle_guard, toggle_named}
 use Rattle.spec_examples.proofs.Toggle.{toggle_coded, toggle_is_machine, toggle_covers, toggle_have, toggle_separate, toggle_answers, toggle_rails}
+use Rattle.spec_examples.proofs.Tests.{data_alone_by_test}
 use Rattle.guard_laws.specs.Promised.{IsGuardOf}
 use Rattle.guard_laws.specs.Named.{IsGuardNamed}
 use Rattle.guard_laws.specs.Texts.{IsGuardFrom}
@@ -21,6 +22,7 @@ toggle_is_guard = record {
   own_nets = toggle_have;
   covers = toggle_covers;
   separate = toggle_separate;
+  reads = λ e. data_alone_by_test toggle_guard parity_code inverter_layout.state refl;
   outputs = refl;
   rail_number = refl;
   inits = refl;

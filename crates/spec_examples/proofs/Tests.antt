@@ -6,7 +6,9 @@ use Rattle.std.proofs.lemmas.List.Elements.{All-from_recursion}
 use Rattle.std.specs.List.{AllByRecursion, list_all, list_any, range_with_len}
 use Rattle.netlist_spec.specs.Gates.{GateForm, GateList, Machine, ForcedNets, latch_nets, gate_reads, ReadsNet}
 use Rattle.netlist_spec.specs.CellBits.{Bit, latch_bit, output_bit, stands_before}
-use Rattle.guard_spec.specs.Regions.{Guarded, IsBitNet, IsRegion, CoversGates, HaveOwnNets, IsRailBit, MayRead, AreSeparate, IsCellOf, IsUntouched}
+use Rattle.guard_spec.specs.Regions.{Guarded, IsBitNet, IsRegion, CoversGates, HaveOwnNets, IsRailBit, MayRead, AreSeparate, IsDataNet, ReadDataAlone, IsCellOf, IsUntouched}
+use Rattle.guard_spec.specs.Codes.{Code}
+use Rattle.guard_spec.specs.Words.{Words}
 use Rattle.netlist_spec.specs.GateRanges.{Region, LiesIn, LeadsToEnd, is_end, is_read}
 use Rattle.netlist_spec.proofs.ListTests.{both, either, any_element, any_from, all_elements, all_at, all_below}
 
@@ -282,3 +284,48 @@ pub untouched_by_test : (g : Guarded) (faults : ForcedNets) (b : Bit) → untouc
 untouched_by_test g faults b h =
     each_holds (λ (e : ℕ × Bool). not (is_cell_of g b e.0) ≡ true) (λ (e : ℕ × Bool). IsCellOf g b e.0 → ⊥) (λ e none cell. none_found (is_cell_of g b e.0) none (cell_found g b e.0 cell)) faults
     (all_elements (λ (e : ℕ × Bool). not (is_cell_of g b e.0)) faults h)
+
+-- ---- regions read data alone
+
+abbrev is_data_net : Code → ℕ → Words → ℕ → Bool
+is_data_net code first [] k = false
+is_data_net code first (w ∷ ws) k = (nat_le first k && nat_lt k (first + length w)) || is_data_net code (first + length w + code.columns) ws k
+
+data_net_is : (code : Code) (first : ℕ) (ws : Words) (k : ℕ) → is_data_net code first ws k ≡ true → IsDataNet code first ws k
+data_net_is code first [] k h = cc h
+data_net_is code first (w ∷ ws) k h = by_case (data_net_is code (first + length w + code.columns) ws k) (either (nat_le first k && nat_lt k (first + length w)) _ h)
+  where
+    by_case : (is_data_net code (first + length w + code.columns) ws k ≡ true → IsDataNet code (first + length w + code.columns) ws k)
+        → ((nat_le first k && nat_lt k (first + length w)) ≡ true) ⊎ (is_data_net code (first + length w + code.columns) ws k ≡ true) → IsDataNet code first (w ∷ ws) k
+    by_case later (inl e) = let (a, b) = both (nat_le first k) _ e in inl (leb-true _ _ a, ltb-true _ _ b)
+    by_case later (inr e) = inr (later e)
+
+abbrev is_data_read : Guarded → Code → Words → Region → ℕ → Bool
+is_data_read g code words r k = nat_lt k g.machine.inputs || (is_data_net code g.machine.inputs words k || lies_in r k)
+
+data_read_is : (g : Guarded) (code : Code) (words : Words) (r : Region) (k : ℕ) → is_data_read g code words r k ≡ true → (k < g.machine.inputs) ⊎ (IsDataNet code g.machine.inputs words k ⊎ LiesIn r k)
+data_read_is g code words r k h = by_case (either (nat_lt k g.machine.inputs) _ h)
+  where
+    by_rest : (is_data_net code g.machine.inputs words k ≡ true) ⊎ (lies_in r k ≡ true) → IsDataNet code g.machine.inputs words k ⊎ LiesIn r k
+    by_rest (inl e) = inl (data_net_is code g.machine.inputs words k e)
+    by_rest (inr e) = inr (lies r k e)
+
+    by_case : (nat_lt k g.machine.inputs ≡ true) ⊎ ((is_data_net code g.machine.inputs words k || lies_in r k) ≡ true) → (k < g.machine.inputs) ⊎ (IsDataNet code g.machine.inputs words k ⊎ LiesIn r k)
+    by_case (inl e) = inl (ltb-true _ _ e)
+    by_case (inr e) = inr (by_rest (either (is_data_net code g.machine.inputs words k) _ e))
+
+abbrev reads_data : Guarded → Code → Words → Region → Bool
+reads_data g code words r = is_rail_bit g r.bit || list_all (λ n. list_all (is_data_read g code words r) (reads_at g.machine.net n)) (places_of r)
+
+pub data_alone_by_test : (g : Guarded) (code : Code) (words : Words) → list_all (reads_data g code words) g.regions ≡ true → ReadDataAlone g code words
+data_alone_by_test g code words h = λ r n k in_list plain inside read. by_case r n k plain inside read (either (is_rail_bit g r.bit) _ (all_at (reads_data g code words) g.regions h r in_list))
+  where
+    by_case : (r : Region) (n k : ℕ) → (IsRailBit g r.bit → ⊥) → LiesIn r n → ReadsNet g.machine.net n k
+        → (is_rail_bit g r.bit ≡ true) ⊎ (list_all (λ n. list_all (is_data_read g code words r) (reads_at g.machine.net n)) (places_of r) ≡ true)
+        → (k < g.machine.inputs) ⊎ (IsDataNet code g.machine.inputs words k ⊎ LiesIn r k)
+    by_case r n k plain inside read (inl e) = absurd (plain (rail_bit_is g r.bit e))
+    by_case r n k plain inside read (inr e) =
+        data_read_is g code words r k
+        (all_at (is_data_read g code words r) (reads_at g.machine.net n)
+        (all_below (λ n. list_all (is_data_read g code words r) (reads_at g.machine.net n)) r.first (r.end - r.first) e n inside.0 (let high = inside.1 in omega arith))
+        k (reads_listed g.machine.net n k read))
