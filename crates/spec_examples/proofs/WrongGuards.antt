@@ -1,12 +1,12 @@
 -- Wrong guards don't meet the premises.
-use Rattle.std.proofs.Common.{◌≡◌, ◌≢◌, refl, sym, ◌∙◌, subst, ℕ, zero, suc, ◌<◌, ◌≤◌, [], ◌∷◌, length, map, get_or, slice_get, true, false, inl, inr, Some, arith, Contains, lit≤, lit<}
+use Rattle.std.proofs.Common.{◌≡◌, ◌≢◌, refl, sym, ◌∙◌, subst, ℕ, zero, suc, ◌<◌, ◌≤◌, ◌⊎◌, [], ◌∷◌, length, map, get_or, slice_get, true, false, inl, inr, Some, arith, Contains, lit≤, lit<}
 use Rattle.std.proofs.lemmas.Option.{same_Some, slice_get_within}
 use Rattle.std.proofs.lemmas.List.{length-map}
 use Rattle.std.proofs.lemmas.List.Elements.{All-contains, All-from_recursion}
 use Rattle.netlist_spec.specs.Gates.{one, two, Machine, IsMachine, ReadsNet, GateStep}
 use Rattle.guard_spec.specs.Codes.{detect, correct}
 use Rattle.netlist_spec.specs.CellBits.{Bit, latch_bit, output_bit}
-use Rattle.guard_spec.specs.Regions.{Guarded, IsRegion, IsBitNet, CoversGates, HaveOwnNets, MayRead, AreSeparate}
+use Rattle.guard_spec.specs.Regions.{Guarded, IsRegion, IsBitNet, CoversGates, HaveOwnNets, MayRead, AreSeparate, IsDataNet, ReadDataAlone}
 use Rattle.netlist_spec.specs.GateRanges.{Region, LiesIn}
 use Rattle.guard_spec.specs.Count.{Counts}
 use Rattle.guard_spec.specs.Rails.{RailsTell, SomeNoCodeword}
@@ -14,7 +14,7 @@ use Rattle.spec_examples.specs.Examples.{parity_code, inverter_layout}
 use Rattle.containment.specs.Built.{IsBuilt}
 use Rattle.spec_examples.specs.Toggle.{toggle, thrice_code}
 use Rattle.spec_examples.specs.Wire.{wire}
-use Rattle.spec_examples.specs.WrongGuards.{copying_guard, pair, pair_layout, sharing_guard, fresh_guard, early_guard, blind_guard, silent_guard, loud_guard, sharing_corrector, set_toggle, unset_guard}
+use Rattle.spec_examples.specs.WrongGuards.{copying_guard, pair, pair_layout, sharing_guard, fresh_guard, checking_guard, early_guard, blind_guard, silent_guard, loud_guard, sharing_corrector, set_toggle, unset_guard}
 use Rattle.containment.proofs.Owners.{cells_have_one_bit}
 use Rattle.spec_examples.proofs.Tests.{untouched_by_test}
 use Rattle.spec_examples.proofs.Toggle.{differ_none}
@@ -148,3 +148,14 @@ early_is_not_separate separate = strays early_guard record { bit = output_bit 2;
     none (inl h) = absurd (omega arith)
     none (inr (inl h)) = absurd (omega arith)
     none (inr (inr (rail, (k, inside, e)))) = is_output k inside e
+
+-- The check output of the word reads the check latch.
+pub check_place_is_read : ReadDataAlone checking_guard parity_code inverter_layout.state → ⊥
+check_place_is_read alone =
+    none (alone record { bit = output_bit 1; first = 5; end = 6 } 5 1 (3, lit< tt, refl) (λ late. absurd (omega arith)) (lit≤ tt, lit< tt) (record { place = 3; number = refl; gate = one false 1; is_gate = refl; reads = (0, lit< tt, refl) }))
+  where
+    none : (1 < 0) ⊎ (IsDataNet parity_code 0 inverter_layout.state 1 ⊎ LiesIn record { bit = output_bit 1; first = 5; end = 6 } 1) → ⊥
+    none (inl h) = absurd (omega arith)
+    none (inr (inl (inl h))) = absurd (let high = h.1 in omega arith)
+    none (inr (inl (inr h))) = h
+    none (inr (inr h)) = absurd (let low = h.0 in omega arith)

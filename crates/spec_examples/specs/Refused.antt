@@ -3,12 +3,12 @@ use Rattle.std.specs.Prelude.{◌≡◌, ◌≢◌, ℕ, map, Some, slice_get}
 use Rattle.guard_spec.specs.Codes.{detect, correct}
 use Rattle.guard_spec.specs.Count.{Counts}
 use Rattle.guard_spec.specs.Rails.{RailsTell}
-use Rattle.guard_spec.specs.Regions.{Guarded, AreSeparate, HaveOwnNets}
+use Rattle.guard_spec.specs.Regions.{Guarded, AreSeparate, HaveOwnNets, ReadDataAlone}
 use Rattle.spec_examples.specs.Examples.{parity_code, inverter_layout}
 use Rattle.containment.specs.Built.{IsBuilt}
 use Rattle.spec_examples.specs.Toggle.{toggle, thrice_code}
 use Rattle.spec_examples.specs.Wire.{wire}
-use Rattle.spec_examples.specs.WrongGuards.{pair, pair_layout, sharing_guard, copying_guard, fresh_guard, early_guard, blind_guard, silent_guard, loud_guard, sharing_corrector, set_toggle, unset_guard}
+use Rattle.spec_examples.specs.WrongGuards.{pair, pair_layout, sharing_guard, copying_guard, fresh_guard, checking_guard, early_guard, blind_guard, silent_guard, loud_guard, sharing_corrector, set_toggle, unset_guard}
 
 -- A cell changes bits of others: a gate that two data bits share, a data net from which a check bit is taken, and a
 -- corrector that serves all bits.
@@ -17,12 +17,13 @@ pub record SharedCellsAreRefused : Type 0 where
   pub fresh_checks : Counts fresh_guard toggle parity_code detect 1 inverter_layout → ⊥
   pub shared_corrector : Counts sharing_corrector toggle thrice_code correct 1 inverter_layout → ⊥
 
--- A region reads a gate of another one.
+-- A region reads a gate of another one, or a check place in detection.
 pub record StrayReadsAreRefused : Type 0 where
   pub shared_gate : AreSeparate sharing_guard → ⊥
   pub fresh_checks : AreSeparate fresh_guard → ⊥
   pub early_rails : AreSeparate early_guard → ⊥
   pub shared_corrector : AreSeparate sharing_corrector → ⊥
+  pub check_place : ReadDataAlone checking_guard parity_code inverter_layout.state → ⊥
 
 -- Rails watch the nets that latches store, or no output words, or a rail is always 0 or always 1.
 pub record WrongRailsAreRefused : Type 0 where

@@ -86,6 +86,10 @@ other_right_rail = two 6 0 1 ∷ two 6 4 5 ∷ two 14 9 10 ∷ []
 abbrev pub fresh_guard : Guarded
 fresh_guard = toggle_by (one true 0 ∷ one false 2 ∷ one false 0 ∷ one false 0 ∷ []) right_rail other_right_rail
 
+-- the check output shows the check latch, which is right as long as nothing is faulty
+abbrev pub checking_guard : Guarded
+checking_guard = toggle_by (one true 0 ∷ one true 0 ∷ one false 0 ∷ one false 1 ∷ []) right_rail other_right_rail
+
 -- a rail watches the nets that the latches store, and not what the latches show
 abbrev pub early_guard : Guarded
 early_guard = toggle_by right_bits (two 6 2 3 ∷ two 6 4 5 ∷ two 14 6 7 ∷ []) other_right_rail

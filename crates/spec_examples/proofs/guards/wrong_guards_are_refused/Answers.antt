@@ -1,11 +1,11 @@
-use Rattle.spec_examples.proofs.WrongGuards.{shared_gate, one_gate_for_two, fresh_checks, early_rails, blind_rails, silent_rail, loud_rail, shared_corrector, copied_input, zero_checks, sharing_is_not_separate, fresh_is_not_separate, early_is_not_separate, corrector_is_not_separate}
+use Rattle.spec_examples.proofs.WrongGuards.{shared_gate, one_gate_for_two, fresh_checks, early_rails, blind_rails, silent_rail, loud_rail, shared_corrector, copied_input, zero_checks, sharing_is_not_separate, fresh_is_not_separate, early_is_not_separate, corrector_is_not_separate, check_place_is_read}
 use Rattle.spec_examples.proofs.guards.wrong_guards_are_refused.Goals as goal
 
 pub returns-clause-shared_cells : goal.returns-clause-shared_cells
 returns-clause-shared_cells c = record { shared_gate = shared_gate; fresh_checks = fresh_checks; shared_corrector = shared_corrector }
 
 pub returns-clause-stray_reads : goal.returns-clause-stray_reads
-returns-clause-stray_reads c = record { shared_gate = sharing_is_not_separate; fresh_checks = fresh_is_not_separate; early_rails = early_is_not_separate; shared_corrector = corrector_is_not_separate }
+returns-clause-stray_reads c = record { shared_gate = sharing_is_not_separate; fresh_checks = fresh_is_not_separate; early_rails = early_is_not_separate; shared_corrector = corrector_is_not_separate; check_place = check_place_is_read }
 
 pub returns-clause-wrong_rails : goal.returns-clause-wrong_rails
 returns-clause-wrong_rails c = record { early = early_rails; blind = blind_rails; silent = silent_rail; loud = loud_rail }
