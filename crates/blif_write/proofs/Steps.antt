@@ -1,10 +1,7 @@
 -- Texts that are written item by item.
-use Rattle.std.proofs.Common.{◌≡◌, ℕ, zero, suc, ◌+◌, ◌-◌, ◌<◌, ◌≤◌, List, [], ◌∷◌, ◌++◌, Some, length, map, take, get_or, slice_get, sym, refl, ap, ◌∙◌, append_assoc, append-nil, add-one, arith, subst, false, true}
-use Rattle.std.specs.Prelude.{Result}
+use Rattle.std.proofs.Common.{◌≡◌, ℕ, zero, suc, ◌+◌, ◌-◌, ◌<◌, ◌≤◌, List, [], ◌∷◌, ◌++◌, Some, length, map, take, get_or, slice_get, sym, refl, ap, ◌∙◌, append_assoc, append-nil, add-one, arith, false, true}
 use Rattle.std.specs.List.{flat_map, enumerate_from}
 use Rattle.std.proofs.lemmas.Grind.{flat_map-append}
-use Rattle.imp_io.specs.declared.fault.SinkFault.{SinkFault}
-use Rattle.imp_io.specs.Sink.{SinkSeen, Puts}
 use Rattle.netlist_spec.specs.Netlist.{Row}
 use Rattle.netlist_spec.specs.Text.{line_text}
 use Rattle.netlist_spec.specs.Gates.{pair_row, pair_rows}
@@ -18,16 +15,6 @@ step line f (x ∷ xs) (suc i) d h = ap (λ l. line (f x) ++ l) (step line f xs 
 
 pub each-step : {A : Type 0} (line : List ℕ → List ℕ) (f : A → List ℕ) (xs : List A) (i : ℕ) (d : A) → i < length xs → flat_map line (map f (take (i + 1) xs)) ≡ flat_map line (map f (take i xs)) ++ line (f (get_or xs i d))
 each-step line f xs i d h = rw add-one (step line f xs i d h)
-
--- the items up to one, and those behind it
-pub each-split : {A : Type 0} (line : List ℕ → List ℕ) (f : A → List ℕ) (xs : List A) (i : ℕ) (d : A) → i < length xs → (rest : List ℕ) × (flat_map line (map f xs) ≡ (flat_map line (map f (take i xs)) ++ line (f (get_or xs i d))) ++ rest)
-each-split line f [] i d h = absurd (omega arith)
-each-split line f (x ∷ xs) zero d h = (flat_map line (map f xs), refl)
-each-split line f (x ∷ xs) (suc i) d h =
-    let later = each-split line f xs i d (omega arith) in
-    let front = flat_map line (map f (take i xs)) in
-    let here = line (f (get_or xs i d)) in
-    (later.0, ap (λ l. line (f x) ++ l) later.1 ∙ sym (append_assoc (line (f x)) (front ++ here) later.0) ∙ ap (λ l. l ++ later.0) (sym (append_assoc (line (f x)) front here)))
 
 -- one more item of a numbered list
 numbered : {A : Type 0} (line : ℕ × A → List ℕ) (a k : ℕ) (xs : List A) (x : A) → slice_get xs k ≡ Some x → flat_map line (enumerate_from a (take (suc k) xs)) ≡ flat_map line (enumerate_from a (take k xs)) ++ line (a + k, x)
@@ -49,42 +36,15 @@ numbered-step line a n xs x h e =
     ap (λ k. flat_map line (enumerate_from a (take k xs))) more ∙ numbered line a (n - a) xs x e
     ∙ ap (λ k. flat_map line (enumerate_from a (take (n - a) xs)) ++ line (k, x)) place
 
-parts : {A : Type 0} (line : ℕ × A → List ℕ) (a k : ℕ) (xs : List A) (x : A) → slice_get xs k ≡ Some x → (rest : List ℕ) × (flat_map line (enumerate_from a xs) ≡ (flat_map line (enumerate_from a (take k xs)) ++ line (a + k, x)) ++ rest)
-parts line a k [] x e = absurd (cc e)
-parts line a zero (y ∷ xs) x e =
-    let same : y ≡ x = cc e in
-    let place : a ≡ a + 0 = omega arith in
-    let rest = flat_map line (enumerate_from (a + 1) xs) in
-    (rest, ap (λ z. line (a, z) ++ rest) same ∙ ap (λ n. line (n, x) ++ rest) place)
-parts line a (suc k) (y ∷ xs) x e =
-    let place : (a + 1) + k ≡ a + suc k = omega arith in
-    let later = parts line (a + 1) k xs x e in
-    let front = flat_map line (enumerate_from (a + 1) (take k xs)) in
-    let here = line ((a + 1) + k, x) in (
-      later.0,
-      ap (λ l. line (a, y) ++ l) later.1 ∙ sym (append_assoc (line (a, y)) (front ++ here) later.0)
-          ∙ ap (λ l. l ++ later.0) (sym (append_assoc (line (a, y)) front here)) ∙ ap (λ n. ((line (a, y) ++ front) ++ line (n, x)) ++ later.0) place,
-    )
-
-pub numbered-split : {A : Type 0} (line : ℕ × A → List ℕ) (a n : ℕ) (xs : List A) (x : A) → a ≤ n → slice_get xs (n - a) ≡ Some x → (rest : List ℕ) × (flat_map line (enumerate_from a xs) ≡ (flat_map line (enumerate_from a (take (n - a) xs)) ++ line (n, x)) ++ rest)
-numbered-split line a n xs x h e =
-    let place : a + (n - a) ≡ n = omega arith in
-    let cut = parts line a (n - a) xs x e in
-    (cut.0, cut.1 ∙ ap (λ k. (flat_map line (enumerate_from a (take (n - a) xs)) ++ line (k, x)) ++ cut.0) place)
-
--- a text that is the same as one that was put
-pub Puts-text : {T : Type 0} (old new : SinkSeen) (a b : List ℕ) (result : Result T SinkFault) → a ≡ b → Puts old a result new → Puts old b result new
-Puts-text old new a b result e p = subst (λ (text : List ℕ). Puts old text result new) e p
-
 fused : {A B C : Type 0} (f : B → C) (h : A → B) (xs : List A) → map f (map h xs) ≡ map (λ x. f (h x)) xs
 fused f h [] = refl
 fused f h (x ∷ xs) = ap (λ l. f (h x) ∷ l) (fused f h xs)
 
 -- the same for what stands for the items
-pub each-split_of : {A B : Type 0} (line : List ℕ → List ℕ) (f : B → List ℕ) (h : A → B) (xs : List A) (i : ℕ) (d : A) → i < length xs → (rest : List ℕ) × (flat_map line (map f (map h xs)) ≡ (flat_map line (map f (map h (take i xs))) ++ line (f (h (get_or xs i d)))) ++ rest)
-each-split_of line f h xs i d inside =
-    let cut = each-split line (λ x. f (h x)) xs i d inside in
-    (cut.0, ap (flat_map line) (fused f h xs) ∙ cut.1 ∙ ap (λ l. (flat_map line l ++ line (f (h (get_or xs i d)))) ++ cut.0) (sym (fused f h (take i xs))))
+pub each-step_of : {A B : Type 0} (line : List ℕ → List ℕ) (f : B → List ℕ) (h : A → B) (xs : List A) (i : ℕ) (d : A) → i < length xs → flat_map line (map f (map h (take (i + 1) xs))) ≡ flat_map line (map f (map h (take i xs))) ++ line (f (h (get_or xs i d)))
+each-step_of line f h xs i d inside =
+    ap (flat_map line) (fused f h (take (i + 1) xs)) ∙ each-step line (λ x. f (h x)) xs i d inside
+    ∙ ap (λ l. flat_map line l ++ line (f (h (get_or xs i d)))) (sym (fused f h (take i xs)))
 
 -- the rows of a table, pair by pair
 pub table-text : (op : ℕ) → rows_text 2 (pair_row op false false) ++ rows_text 2 (pair_row op false true) ++ rows_text 2 (pair_row op true false) ++ rows_text 2 (pair_row op true true) ≡ rows_text 2 (pair_rows op)

@@ -1,5 +1,6 @@
 // The text of a gate list with names.
 ghost use Rattle.std.specs.Prelude.{◌≡◌};
+ghost use Rattle.imp_io.specs.Blocks.{Gives};
 ghost use Rattle.imp_io.specs.Sink.{Puts};
 ghost use Rattle.netlist_spec.specs.Text.{text_of};
 ghost use Rattle.netlist_spec.specs.Written.{IsNamed, file_of};
@@ -10,7 +11,7 @@ ghost use Rattle.blif_write.specs.Refusals.{put_answer};
 use crate::WriteRefusal;
 use crate::lines::{put_gate, put_latch, put_line, put_names, put_nets, put_number};
 use gate_net::NetId;
-use imp_io::{Sink, SinkFault};
+use imp_io::{Blocks, Sink, SinkFault};
 use named_netlist::Named;
 
 /// Appends the text of a gate list: the line on unknown inits, the model, its ports, its latches, and its gates in
@@ -22,54 +23,60 @@ pub fn write<O: Sink>(g: &Named, out: &mut O) -> Result<(), WriteRefusal>
 {
     // What holds of every `Named` is known once a field is read.
     let _ = &g.net;
-    match put_text(g, out) {
+    match put_blocks(g, out) {
         Ok(()) => Ok(()),
         Err(SinkFault::Failed) => Err(WriteRefusal::Fault),
         Err(SinkFault::NoMemory) => Err(WriteRefusal::NoMemory),
     }
 }
 
-fn put_text<O: Sink>(g: &Named, out: &mut O) -> Result<(), SinkFault>
+fn put_blocks<O: Sink>(g: &Named, out: &mut O) -> Result<(), SinkFault>
     ensures { Puts (O.seen out.old) (named_text g.now) result (O.seen out.new) }
 {
-    put_head(g, out)?;
-    put_ports(g, out)?;
-    put_latches(g, out)?;
-    put_gates(g, out)?;
-    out.put(b".end\n")
+    let mut blocks = Blocks::new(out);
+    put_text(g, &mut blocks);
+    blocks.flush()
 }
 
-fn put_head<O: Sink>(g: &Named, out: &mut O) -> Result<(), SinkFault>
-    ensures { Puts (O.seen out.old) (head_text g.now) result (O.seen out.new) }
+fn put_text<O: Sink>(g: &Named, out: &mut Blocks<'_, O>)
+    ensures { Gives O.seen out.old (named_text g.now) out.new }
 {
-    put_number(b"# unknown inits ", g.unknown_inits, out)?;
-    put_line(b".model ", g.model.bytes(), out)
+    put_head(g, out);
+    put_ports(g, out);
+    put_latches(g, out);
+    put_gates(g, out);
+    out.put(b".end\n");
 }
 
-fn put_ports<O: Sink>(g: &Named, out: &mut O) -> Result<(), SinkFault>
-    ensures { Puts (O.seen out.old) (ports_text g.now) result (O.seen out.new) }
+fn put_head<O: Sink>(g: &Named, out: &mut Blocks<'_, O>)
+    ensures { Gives O.seen out.old (head_text g.now) out.new }
 {
-    put_names(b".inputs ", &g.names, &g.inputs, out)?;
-    put_nets(b".outputs ", g, &g.outputs, out)?;
-    put_names(b".clock ", &g.names, &g.clocks, out)
+    put_number(b"# unknown inits ", g.unknown_inits, out);
+    put_line(b".model ", g.model.bytes(), out);
+}
+
+fn put_ports<O: Sink>(g: &Named, out: &mut Blocks<'_, O>)
+    ensures { Gives O.seen out.old (ports_text g.now) out.new }
+{
+    put_names(b".inputs ", &g.names, &g.inputs, out);
+    put_nets(b".outputs ", g, &g.outputs, out);
+    put_names(b".clock ", &g.names, &g.clocks, out);
 }
 
 // The nets of the latches stand behind the data inputs.
-fn put_latches<O: Sink>(g: &Named, out: &mut O) -> Result<(), SinkFault>
-    ensures { Puts (O.seen out.old) (latches_text g.now) result (O.seen out.new) }
+fn put_latches<O: Sink>(g: &Named, out: &mut Blocks<'_, O>)
+    ensures { Gives O.seen out.old (latches_text g.now) out.new }
 {
     let first = g.data_inputs;
     for n in first..g.net.leaves() {
-        put_latch(g, NetId(n), g.latches[(n - first) as usize], out)?;
+        put_latch(g, NetId(n), g.latches[(n - first) as usize], out);
     }
-    Ok(())
 }
 
-fn put_gates<O: Sink>(g: &Named, out: &mut O) -> Result<(), SinkFault>
-    ensures { Puts (O.seen out.old) (gates_text g.now) result (O.seen out.new) }
+fn put_gates<O: Sink>(g: &Named, out: &mut Blocks<'_, O>)
+    ensures { Gives O.seen out.old (gates_text g.now) out.new }
 {
     for n in g.net.leaves()..g.net.len() {
-        put_gate(g, NetId(n), &g.net.gate(NetId(n)), out)?;
+        put_gate(g, NetId(n), &g.net.gate(NetId(n)), out);
     }
-    Ok(())
 }

@@ -61,7 +61,7 @@ fn a_register_is_written(rt: HostRuntime) -> Result<(), Fail> {
 fn a_failed_put_leaves_a_prefix(rt: HostRuntime) -> Result<(), Fail> {
     let alloc = rt.alloc();
     let g = inverter(alloc)?;
-    let mut out = MemSink::new(alloc, vec![in alloc; (4, 3)]?);
+    let mut out = MemSink::new(alloc, vec![in alloc; (1, 21)]?);
     assert_eq!(rt; write(&g, &mut out), Err(WriteRefusal::Fault));
     assert_eq!(rt; out.bytes(), b"# unknown inits 0\n.mo".as_slice());
     Ok(())

@@ -4,6 +4,8 @@
 #[cfg(test)]
 mod flat_texts;
 #[cfg(test)]
+mod long_texts;
+#[cfg(test)]
 mod machines;
 #[cfg(test)]
 mod ready;

@@ -46,10 +46,10 @@ flushed-stopped start below text held (Some other) fault some puts =
     let same : other ≡ fault = cc some in
     subst (λ (l : List ℕ). Puts {T = Unit {0}} start l (Err fault) below) (append-nil text) (subst (λ (f : SinkFault). Puts {T = Unit {0}} start (text ++ []) (Err f) below) same puts)
 
-module _ {O : Type 0} (seen : O → SinkSeen) where
+module _ {O : Type 0} {seen : O → SinkSeen} where
   -- a piece behind another
-  pub Gives-append : (old mid new : Blocks O) (first second : List ℕ) → Gives seen old first mid → Gives seen mid second new → Gives seen old (first ++ second) new
-  Gives-append old mid new first second p q = record {
+  pub Gives-append : {old mid new : Blocks O} {first second : List ℕ} → Gives seen old first mid → Gives seen mid second new → Gives seen old (first ++ second) new
+  Gives-append {old} {mid} {new} {first} {second} p q = record {
     same_sink = q.same_sink ∙ p.same_sink;
     text = λ start text stands.
         subst (λ (l : List ℕ). StandsAt start l (seen new.to.now) new.block.items new.stopped) (append_assoc text first second) (q.text start (text ++ first) (p.text start text stands));
@@ -77,9 +77,9 @@ module _ {O : Type 0} (seen : O → SinkSeen) where
   }
 
   -- and is put with the block
-  pub Gives-put : (old mid new : Blocks O) (piece : List ℕ) → Gives seen old piece mid → Gives seen mid [] new → Gives seen old piece new
-  Gives-put old mid new piece p q = subst (λ (l : List ℕ). Gives seen old l new) (append-nil piece) (Gives-append old mid new piece [] p q)
+  pub Gives-put : {old mid new : Blocks O} {piece : List ℕ} → Gives seen old piece mid → Gives seen mid [] new → Gives seen old piece new
+  Gives-put {old} {mid} {new} {piece} p q = subst (λ (l : List ℕ). Gives seen old l new) (append-nil piece) (Gives-append p q)
 
   -- a text that is the same as one that was given
-  pub Gives-text : (old new : Blocks O) (a b : List ℕ) → a ≡ b → Gives seen old a new → Gives seen old b new
-  Gives-text old new a b is given = subst (λ (l : List ℕ). Gives seen old l new) is given
+  pub Gives-text : {old new : Blocks O} {a b : List ℕ} → a ≡ b → Gives seen old a new → Gives seen old b new
+  Gives-text {old} {new} is given = subst (λ (l : List ℕ). Gives seen old l new) is given

@@ -428,7 +428,8 @@ fn puts_that_fail(rt: HostRuntime) -> Result<(), Fail> {
             assert_eq!(rt; ran.status, 4);
             assert_eq!(rt; ran.err.bytes(), b"impeccable: cannot write\n".as_slice());
         }
-        assert!(rt; last > 4);
+        // A short text is one put.
+        assert_eq!(rt; last, 2);
     }
     Ok(())
 }

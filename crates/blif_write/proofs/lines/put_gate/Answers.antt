@@ -1,11 +1,5 @@
-use Rattle.std.proofs.lemmas.Result.{err_from_is_err_and}
-use Rattle.imp_io.proofs.PutLemmas.{Puts-append, Puts-stopped}
+use Rattle.imp_io.proofs.BlockLemmas.{Gives-append}
 use Rattle.blif_write.proofs.lines.put_gate.Goals as goal
 
-pub returns-in_err-put_names_line : goal.returns-in_err-put_names_line
-returns-in_err-put_names_line g c =
-    let p = err_from_is_err_and c.from_residual.result c.from_residual.ensures.1 in
-    rw (p.1, p.2) (Puts-stopped _ _ _ _ _ (c.in_err-put_names_line.ensures))
-
 pub returns : goal.returns
-returns g c = Puts-append _ _ _ _ _ _ _ c.in_ok-put_names_line.ensures c.put_rows.ensures
+returns g c = Gives-append c.put_names_line.ensures c.put_rows.ensures

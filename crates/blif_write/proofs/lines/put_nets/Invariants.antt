@@ -1,6 +1,6 @@
--- The lines so far were put whole.
-use Rattle.std.proofs.Common.{map, take, Ok}
-use Rattle.imp_io.specs.Sink.{Puts}
+-- The lines so far were given.
+use Rattle.std.proofs.Common.{map, take}
+use Rattle.imp_io.specs.Blocks.{Gives}
 use Rattle.netlist_spec.specs.Written.{net_name}
 use Rattle.gate_net.specs.Gate.{net_number}
 use Rattle.blif_write.specs.Lines.{lines_of}
@@ -8,4 +8,4 @@ use Rattle.blif_write.proofs.lines.put_nets.Given as goal
 
 abbrev pub invariant-loop-n : goal.invariant-loop-n
 invariant-loop-n g l =
-    Puts {T = Unit {0}} (g.O.Sink.seen l.initial.out) (lines_of l.front (map (net_name l.g) (map net_number (take l.n-index l.nets)))) (Ok tt) (g.O.Sink.seen l.out)
+    Gives g.O.Sink.seen l.initial.out (lines_of l.front (map (net_name l.g) (map net_number (take l.n-index l.nets)))) l.out

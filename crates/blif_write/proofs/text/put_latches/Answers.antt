@@ -1,11 +1,10 @@
-use Rattle.std.proofs.lemmas.Result.{err_from_is_err_and}
-use Rattle.imp_io.proofs.PutLemmas.{Puts-append, Puts-stopped}
+use Rattle.imp_io.proofs.BlockLemmas.{Gives-append, Gives-text}
 use Rattle.std.proofs.Common.{◌≡◌, ℕ, ◌-◌, ◌<◌, ◌≤◌, get_or, ap, subst, sym, arith}
 use Rattle.netlist_spec.specs.Written.{Named, IsNamed}
 use Rattle.gate_net.specs.Machine.{latch_row}
 use Rattle.blif_write.specs.Lines.{latch_text}
 use Rattle.named_netlist.proofs.NetLemmas.{latch-here, store-here}
-use Rattle.blif_write.proofs.Steps.{Puts-text, numbered-step, numbered-split}
+use Rattle.blif_write.proofs.Steps.{numbered-step}
 use Rattle.blif_write.proofs.text.put_latches.Goals as goal
 
 pub put_latch-requires-clause-d : goal.put_latch-requires-clause-d
@@ -20,21 +19,6 @@ put_latch-requires-clause-d g c =
     let is : row ≡ get_or c.g.inside.latches.items (c.loop-n.n - c.args.g.now.data_inputs) row = subst (λ (a : ℕ). row ≡ get_or c.g.inside.latches.items (c.loop-n.n - a) row) first c.index.ensures in
     store-here c.args.g.now c.g.inside.latches.items c.loop-n.n row named rows is low high
 
-pub returns-in_err-put_latch : goal.returns-in_err-put_latch
-returns-in_err-put_latch g c =
-    let p = err_from_is_err_and c.from_residual.result c.from_residual.ensures.1 in
-    let named = subst IsNamed c.g.view_is c.g.invariant.named in
-    let first : c.g.inside.data_inputs ≡ c.args.g.now.data_inputs = ap (λ (h : Named). h.data_inputs) c.g.view_is in
-    let leaves : c.g.inside.net.leaves ≡ c.args.g.now.net.leaves = ap (λ (h : Named). h.net.leaves) c.g.view_is in
-    let rows = ap (λ (h : Named). h.latches) c.g.view_is in
-    let low : c.args.g.now.data_inputs ≤ c.loop-n.n = omega arith in
-    let high : c.loop-n.n < c.args.g.now.net.leaves = omega arith in
-    let row = c.index.result.now in
-    let is : row ≡ get_or c.g.inside.latches.items (c.loop-n.n - c.args.g.now.data_inputs) row = subst (λ (a : ℕ). row ≡ get_or c.g.inside.latches.items (c.loop-n.n - a) row) first c.index.ensures in
-    let here = latch-here c.args.g.now c.g.inside.latches.items c.loop-n.n row named rows is low high in
-    let cut = numbered-split (latch_text c.args.g.now) c.args.g.now.data_inputs c.loop-n.n c.args.g.now.latches (latch_row row) low here in
-    rw (p.1, p.2) (Puts-text _ _ _ _ _ (sym cut.1) (Puts-stopped _ _ _ _ _ (Puts-append _ _ _ _ _ _ _ c.loop-n.invariant c.in_err-put_latch.ensures)))
-
 pub loop-n-preserved : goal.loop-n-preserved
 loop-n-preserved g c =
     let named = subst IsNamed c.g.view_is c.g.invariant.named in
@@ -46,5 +30,5 @@ loop-n-preserved g c =
     let row = c.index.result.now in
     let is : row ≡ get_or c.g.inside.latches.items (c.loop-n.n - c.args.g.now.data_inputs) row = subst (λ (a : ℕ). row ≡ get_or c.g.inside.latches.items (c.loop-n.n - a) row) first c.index.ensures in
     let here = latch-here c.args.g.now c.g.inside.latches.items c.loop-n.n row named rows is low high in
-    Puts-text _ _ _ _ _ (sym (numbered-step (latch_text c.args.g.now) c.args.g.now.data_inputs c.loop-n.n c.args.g.now.latches (latch_row row) low here))
-    (Puts-append _ _ _ _ _ _ _ c.loop-n.invariant c.in_ok-put_latch.ensures)
+    Gives-text (sym (numbered-step (latch_text c.args.g.now) c.args.g.now.data_inputs c.loop-n.n c.args.g.now.latches (latch_row row) low here))
+    (Gives-append c.loop-n.invariant c.put_latch.ensures)

@@ -2,7 +2,7 @@ use Rattle.std.proofs.Common.{subst}
 use Rattle.netlist_spec.specs.Written.{IsNamed}
 use Rattle.named_netlist.proofs.NamedReads.{texts-are-read}
 use Rattle.blif_write.proofs.NamedTexts.{text-is}
-use Rattle.blif_write.proofs.Steps.{Puts-text}
+use Rattle.imp_io.proofs.PutLemmas.{Puts-text}
 use Rattle.blif_write.proofs.text.write.Goals as goal
 
 pub returns-in-Ok-clause-puts : goal.returns-in-Ok-clause-puts

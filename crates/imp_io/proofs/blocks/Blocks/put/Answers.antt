@@ -4,7 +4,7 @@ use Rattle.imp_io.proofs.BlockLemmas.{Gives-append, Gives-held, Gives-nil, Gives
 use Rattle.imp_io.proofs.blocks.Blocks.put.Goals as goal
 
 pub loop-rest-init : goal.loop-rest-init
-loop-rest-init g c = ([], refl, Gives-nil g.O.Sink.seen c.args.self.now)
+loop-rest-init g c = ([], refl, Gives-nil c.args.self.now)
 
 pub loop-rest-preserved : goal.loop-rest-preserved
 loop-rest-preserved g c =
@@ -15,7 +15,7 @@ loop-rest-preserved g c =
     let held : c.try_extend_from_slice.new.self.items ≡ c.loop-rest.self.block.items ++ front = grind (arith, common_steps) in (
       done ++ front,
       parts ∙ ap (λ l. done ++ l) cut ∙ sym (append_assoc done front more),
-      Gives-append g.O.Sink.seen _ _ _ _ _ given (Gives-put g.O.Sink.seen _ _ _ _ (Gives-held g.O.Sink.seen c.loop-rest.self front c.try_extend_from_slice.new.self held) c.put_block.ensures.gives),
+      Gives-append given (Gives-put (Gives-held c.loop-rest.self front c.try_extend_from_slice.new.self held) c.put_block.ensures.gives),
     )
 
 pub returns : goal.returns
@@ -23,5 +23,5 @@ returns g c =
     let (done, parts, given) = c.loop-rest.invariant in
     let rest = c.loop-rest.rest.now in
     let held : c.try_extend_from_slice-2.new.self.items ≡ c.loop-rest.self.block.items ++ rest = grind (arith, common_steps) in
-    Gives-text g.O.Sink.seen _ _ _ _ (sym parts)
-    (Gives-append g.O.Sink.seen _ _ _ _ _ given (Gives-held g.O.Sink.seen c.loop-rest.self rest c.try_extend_from_slice-2.new.self held))
+    Gives-text (sym parts)
+    (Gives-append given (Gives-held c.loop-rest.self rest c.try_extend_from_slice-2.new.self held))

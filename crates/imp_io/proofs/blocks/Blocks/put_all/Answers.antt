@@ -6,5 +6,5 @@ use Rattle.imp_io.proofs.blocks.Blocks.put_all.Goals as goal
 
 pub loop-piece-preserved : goal.loop-piece-preserved
 loop-piece-preserved g c =
-    Gives-text g.O.Sink.seen _ _ _ _ (sym (pieces-more bytes_of c.args.pieces.now c.loop-piece.piece-index (record { ref_ptr = (0, 0); now = [] }) c.loop-piece-test.true))
-    (Gives-append g.O.Sink.seen _ _ _ _ _ c.loop-piece.invariant c.put.ensures)
+    Gives-text (sym (pieces-more bytes_of c.args.pieces.now c.loop-piece.piece-index (record { ref_ptr = (0, 0); now = [] }) c.loop-piece-test.true))
+    (Gives-append c.loop-piece.invariant c.put.ensures)
