@@ -11,6 +11,3 @@ pub use laws::{
     syndromes_tell_errors, words_have_distances,
 };
 pub use word::{Word, weight};
-
-#[cfg(test)]
-mod tests;

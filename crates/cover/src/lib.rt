@@ -4,6 +4,3 @@
 mod products;
 
 pub use products::lower;
-
-#[cfg(test)]
-mod tests;

@@ -6,6 +6,3 @@ mod least_weight;
 
 pub use error_patterns::{Pattern, patterns};
 pub use least_weight::distance;
-
-#[cfg(test)]
-mod tests;

@@ -4,10 +4,7 @@
 mod gate;
 mod laws;
 mod machine;
-mod net;
-#[cfg(test)]
-mod tests;
-mod words;
+mod net;mod words;
 
 pub use gate::{Gate, NetId, Op};
 pub use laws::{

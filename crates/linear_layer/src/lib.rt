@@ -6,6 +6,3 @@ mod parities;
 
 pub use layer::{Linear, NamedLinear};
 pub use parities::lower;
-
-#[cfg(test)]
-mod tests;

@@ -3,8 +3,5 @@
 
 mod bit;
 mod laws;
-#[cfg(test)]
-mod tests;
-
 pub use bit::check_bit;
 pub use laws::check_bits_cost_no_more;

@@ -7,6 +7,3 @@ mod joins;
 
 pub use bits::bit;
 pub use joins::{join, joined};
-
-#[cfg(test)]
-mod tests;

@@ -7,6 +7,3 @@ mod table;
 
 pub use outputs::lower;
 pub use table::{NamedTable, Table};
-
-#[cfg(test)]
-mod tests;

@@ -1,6 +1,0 @@
-use Rattle.std.proofs.Common.{◌≡◌, ◌+◌}
-use Rattle.gate_net.specs.GateNet.{net_count}
-use Rattle.predictor.proofs.tests.inverters.Given as goal
-
-abbrev pub invariant-loop-i : goal.invariant-loop-i
-invariant-loop-i l = (l.net.leaves ≡ 4) × (net_count l.net ≡ 4 + l.i)
