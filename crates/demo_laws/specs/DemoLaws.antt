@@ -9,7 +9,8 @@ use Rattle.guard_spec.specs.Words.{Layout, IsLayout, layout_fault}
 use Rattle.netlist_spec.specs.Reads.{Reads}
 use Rattle.program_spec.specs.Commands.{other_limit}
 use Rattle.guard_spec.specs.SettingsFile.{settings_of_bytes}
-use Rattle.program_spec.specs.Verdict.{Contents, IsAccepted}
+use Rattle.program_spec.specs.Walk.{Contents}
+use Rattle.program_spec.specs.Verdict.{IsAccepted}
 use Rattle.program_spec.specs.Demo.{demo_settings, demo_netlist, demo_stream}
 use Rattle.demo_laws.specs.DemoFile.{input_names, output_names, demo_file, demo_model, demo_layout}
 use Rattle.demo_laws.specs.DemoFiles.{demo_settings_text, demo_stimulus}

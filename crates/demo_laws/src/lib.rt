@@ -5,7 +5,7 @@ ghost use Rattle.std.specs.Prelude.{◌≡◌, ℕ, List, Ok};
 ghost use Rattle.guard_spec.specs.Codes.{IsDistance, needed_distance, hamming_code};
 ghost use Rattle.program_spec.specs.Demo.{demo_settings};
 ghost use Rattle.guard_spec.specs.SettingsFile.{IsSettings, settings_of_bytes};
-ghost use Rattle.program_spec.specs.Verdict.{Contents};
+ghost use Rattle.program_spec.specs.Walk.{Contents};
 ghost use Rattle.guard_spec.specs.Words.{Layout};
 ghost use Rattle.demo_laws.specs.DemoFiles.{demo_settings_text};
 ghost use Rattle.demo_laws.specs.DemoLaws.{DemoHasCost, DemoHasCounts, DemoHasOneLayout, DemoHasPlainSize, DemoHasPorts, DemoHasStimulus, DemoIsAccepted, DemoIsLaidOut, DemoIsRead, DemoIsShort, DemoIsSound, DemoTextsAreAccepted};

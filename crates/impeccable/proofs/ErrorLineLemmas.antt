@@ -8,7 +8,7 @@ use Rattle.netlist_spec.specs.Netlist.{Quantity, cover_inputs, model_inputs, mod
 use Rattle.program_spec.specs.ErrorLines.{at_line, error_line, refusal_text}
 use Rattle.netlist_spec.specs.Escapes.{escape, quantity_word}
 use Rattle.impeccable.specs.declared.outcome.Refusal.{Refusal}
-use Rattle.impeccable.specs.Ended.{named_line, place_text}
+use Rattle.impeccable.specs.Says.{named_line, place_text}
 use Rattle.impeccable.specs.Outcome.{refusal_of}
 
 spread : (p n l d t z : List ℕ) → ((((p ++ n) ++ l) ++ d) ++ 32 ∷ []) ++ (t ++ z) ≡ (p ++ (((n ++ l) ++ d) ++ 32 ∷ t)) ++ z

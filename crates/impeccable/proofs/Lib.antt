@@ -1,6 +1,7 @@
-pub mod AnswersLemmas
+pub mod StepLemmas
+pub mod FlatLemmas
+pub mod CodeLemmas
+pub mod OutcomeLemmas
 pub mod ErrorLineLemmas
-pub mod StopLemmas
 pub mod WriteLemmas
 pub mod ReportLemmas
-pub mod CodeLemmas

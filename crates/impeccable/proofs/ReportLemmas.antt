@@ -7,7 +7,7 @@ use Rattle.netlist_spec.specs.Statements.{bit_char}
 use Rattle.std.specs.Prelude.{decimal}
 use Rattle.impeccable.specs.declared.code.Report.{Report}
 use Rattle.guard_spec.specs.Codes.{Code, bits_of, data_places}
-use Rattle.program_spec.specs.Printed.{bits_text, report_text}
+use Rattle.program_spec.specs.Printed.{IsReport, bits_text, report_text}
 use Rattle.impeccable.specs.Code.{Measures, number_text, report_lines, size_text, word_line}
 
 regroup : (s d w b z x y : List ℕ) → ((((s ++ d) ++ ((w ++ b) ++ z)) ++ x) ++ y) ≡ (((((s ++ d) ++ w) ++ b) ++ z) ++ x) ++ y
@@ -31,3 +31,8 @@ bits-more w i = ap bits_text (map-range_with_len_more (λ j. has_bit w j) 0 i i 
 
 pub bits-long : (w i : ℕ) → length (bits_text (bits_of i w)) ≡ i
 bits-long w i = length-map (bits_of i w) bit_char ∙ length-map-range_with_len (λ j. has_bit w j) 0 i
+
+-- what is measured is a report
+pub is-report : (code : Code) (report : Report) → Measures code report → IsReport code (report_lines report)
+is-report code report m =
+    record { d = report.distance; is_distance = m.distance; u = bits_of (data_places code) report.least.0; is_least = m.least; is_text = lines-are code report m }

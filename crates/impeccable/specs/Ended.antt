@@ -1,51 +1,42 @@
--- How a command ended as plain data, and what is put to the error output.
-use Rattle.std.specs.Prelude.{◌≡◌, ℕ, List, ◌++◌, ◌∷◌, [], codes, decimal, Result, MatchOption}
-use Rattle.std.specs.List.{flat_map}
-use Rattle.std.specs.Io.KnownBytes.{Appends}
-use Rattle.imp_io.specs.Counts.{Stayed}
-use Rattle.imp_io.specs.Sink.{SinkSeen, AppendsPrefix, Puts}
+-- How a command ended, as plain data.
+use Rattle.std.specs.Prelude.{Option, None, Some, Result, Ok, Err}
 use Rattle.imp_io.specs.declared.fault.SinkFault.{SinkFault}
-use Rattle.program_spec.specs.ErrorLines.{Answer, done, usage, refused, read_fault, write_fault, no_memory, answer_line}
-use Rattle.netlist_spec.specs.Escapes.{escape}
-use Rattle.impeccable.specs.declared.ended.Ended.{Ended}
-use Rattle.impeccable.specs.declared.ended.Ended.TheVariants.{Done, Usage, Refused, ReadFault, WriteFault, NoMemory}
-use Rattle.impeccable.specs.declared.outcome.Outcome.{Outcome}
-use Rattle.impeccable.specs.declared.outcome.Outcome.TheVariants.{Done as ADone, Usage as AUsage, Refused as ARefused, ReadFault as AReadFault, WriteFault as AWriteFault, NoMemory as ANoMemory}
+use Rattle.imp_io.specs.declared.fault.SinkFault.TheVariants.{Failed, NoMemory as NoRoom}
+use Rattle.blif_write.specs.declared.refusal.WriteRefusal.{WriteRefusal}
+use Rattle.blif_write.specs.declared.refusal.WriteRefusal.TheVariants.{Fault, NoMemory as NoSpace}
+use Rattle.program_spec.specs.Refusals.{Refusal}
+use Rattle.program_spec.specs.ErrorLines.{Answer, done, found, usage, refused, read_fault, write_fault, no_memory}
+use Rattle.impeccable.specs.declared.ended.Success.{Success}
+use Rattle.impeccable.specs.declared.ended.Success.TheVariants.{Done, Found}
+use Rattle.impeccable.specs.declared.ended.Stop.{Stop}
+use Rattle.impeccable.specs.declared.ended.Stop.TheVariants.{Usage, Refused, ReadFault, WriteFault, NoMemory}
 use Rattle.impeccable.specs.Outcome.{refusal_of}
 
-abbrev pub answer_of : Ended → Answer
-answer_of Done = done
-answer_of Usage = usage
-answer_of (Refused told) = refused (refusal_of told)
-answer_of (ReadFault name) = read_fault name.now
-answer_of WriteFault = write_fault
-answer_of NoMemory = no_memory
+abbrev pub stop_answer : Stop → Answer
+stop_answer Usage = usage
+stop_answer (Refused told) = refused (refusal_of told)
+stop_answer (ReadFault name) = read_fault name.now
+stop_answer WriteFault = write_fault
+stop_answer NoMemory = no_memory
 
-abbrev pub outcome_of : Ended → Outcome
-outcome_of Done = ADone
-outcome_of Usage = AUsage
-outcome_of (Refused told) = ARefused told
-outcome_of (ReadFault name) = AReadFault
-outcome_of WriteFault = AWriteFault
-outcome_of NoMemory = ANoMemory
+abbrev pub success_answer : Success → Answer
+success_answer Done = done
+success_answer Found = found
 
--- a text, a name as it is printed, and the end of the line
-abbrev pub named_line : List ℕ → List ℕ → List ℕ
-named_line front name = front ++ flat_map escape name ++ 10 ∷ []
+abbrev pub answer_of : Result Success Stop → Answer
+answer_of (Ok success) = success_answer success
+answer_of (Err stop) = stop_answer stop
 
--- the number of a refusal and that of a line of the netlist
-abbrev pub place_text : List ℕ → ℕ → List ℕ
-place_text number line = codes "impeccable: " ++ number ++ codes " line " ++ decimal line ++ 32 ∷ []
+-- A fault of a layer is that refusal, and want of memory where it is none.
+abbrev pub fault_answer : (F : Type 0) → (F → Refusal) → Option F → Answer
+fault_answer F told None = no_memory
+fault_answer F told (Some fault) = refused (told fault)
 
--- The line was put, or a prefix of it at the first put that failed.
-abbrev pub PutsAnswer : {T : Type 0} → Answer → SinkSeen → Result T SinkFault → SinkSeen → Type 0
-PutsAnswer answer old result new = MatchOption (answer_line answer) (new ≡ old) (λ line. Puts old line result new)
+-- what a put that fails comes to, and a text that isn't written whole
+abbrev pub sink_answer : SinkFault → Answer
+sink_answer Failed = write_fault
+sink_answer NoRoom = no_memory
 
--- A prefix of the line stands there, and the whole line where no put failed or found no memory.
-pub record SaysLine (line : List ℕ) (old new : SinkSeen) : Type 0 where
-  pub prefix : AppendsPrefix old.written new.written line
-  pub whole : Stayed old.faults new.faults → Stayed old.denied new.denied → Appends old.written new.written line
-
--- the line of the answer is told, and a success tells nothing
-abbrev pub Says : Answer → SinkSeen → SinkSeen → Type 0
-Says answer old new = MatchOption (answer_line answer) (new ≡ old) (λ line. SaysLine line old new)
+abbrev pub write_answer : WriteRefusal → Answer
+write_answer Fault = write_fault
+write_answer NoSpace = no_memory

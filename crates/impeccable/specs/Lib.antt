@@ -1,8 +1,8 @@
 pub mod Command
 pub mod Outcome
 pub mod Ended
+pub mod Says
 pub mod Answers
-pub mod Ends
-pub mod Stop
+pub mod Steps
 pub mod Flat
 pub mod Code

@@ -1,8 +1,9 @@
--- The status that each outcome ends with, and refusals as plain data.
-use Rattle.std.specs.Prelude.{ℕ}
+-- The status that each outcome ends with, and what it is as plain data.
+use Rattle.std.specs.Prelude.{◌≡◌, ℕ, List}
 use Rattle.netlist_spec.specs.ReadFaults.{unknown_statement, bad_row, mixed_cover, bad_latch, no_model, long_name, too_many, twice_model, bad_subckt, after_end, word_count}
 use Rattle.guard_spec.specs.SettingsFile.{not_toml, missing, bad_value, unknown_key, bad_shape}
 use Rattle.program_spec.specs.Refusals.{Refusal, file_too_long, unreadable, bad_settings, not_yet}
+use Rattle.program_spec.specs.ErrorLines.{Answer, done, found, usage, refused, read_fault, write_fault, no_memory}
 use Rattle.imp_text.specs.Quantities.{quantity_of}
 use Rattle.impeccable.specs.declared.outcome.Refusal.{Refusal as Told}
 use Rattle.impeccable.specs.declared.outcome.Refusal.TheVariants.{FileTooLong, UnknownStatement, BadRow, MixedCover, BadLatch, NoModel, LongName, TooMany, TwiceModel, BadSubckt, AfterEnd, WordCount, NotToml, Missing, BadValue, UnknownKey, BadShape, NotYet}
@@ -37,3 +38,13 @@ refusal_of (BadValue key) = bad_settings (bad_value key)
 refusal_of (UnknownKey key) = bad_settings (unknown_key key)
 refusal_of BadShape = bad_settings bad_shape
 refusal_of NotYet = not_yet
+
+-- The outcome is that of the answer. The name of the file whose load failed is left out.
+abbrev pub IsAnswer : Outcome → Answer → Type 0
+IsAnswer Done answer = answer ≡ done
+IsAnswer Found answer = answer ≡ found
+IsAnswer Usage answer = answer ≡ usage
+IsAnswer (Refused told) answer = answer ≡ refused (refusal_of told)
+IsAnswer ReadFault answer = (name : List ℕ) × (answer ≡ read_fault name)
+IsAnswer WriteFault answer = answer ≡ write_fault
+IsAnswer NoMemory answer = answer ≡ no_memory

@@ -7,11 +7,13 @@ ghost use Rattle.netlist_spec.specs.Covers.{has_bit};
 ghost use Rattle.netlist_spec.specs.Statements.{bit_char};
 ghost use Rattle.program_spec.specs.Commands.{code as code_command};
 ghost use Rattle.program_spec.specs.Printed.{bits_text};
+ghost use Rattle.impeccable.specs.Answers.{Answers};
 ghost use Rattle.impeccable.specs.Code.{Measures, number_text, report_lines, size_text, word_line};
-ghost use Rattle.impeccable.specs.Stop.{Prepares};
+ghost use Rattle.impeccable.specs.Ended.{answer_of};
+ghost use Rattle.impeccable.specs.Steps.{Prepares};
 
+use crate::ended::{Ended, Stop, Success};
 use crate::load::load_named;
-use crate::stop::Stop;
 use arrayvec::ArrayVec;
 use block_code::{Code, Word};
 use distance::distance;
@@ -24,7 +26,7 @@ const LONGEST_SETTINGS: usize = 16_777_216;
 
 // The numbers that the report on a code tells, and the least data whose codeword has the weight of its distance.
 #[derive(Clone, Copy, Debug)]
-pub(crate) struct Report {
+struct Report {
     places: u8,
     data_places: u8,
     distance: u8,
@@ -33,8 +35,23 @@ pub(crate) struct Report {
     corrects: u8,
 }
 
-/// Loads and reads the settings, and measures their code.
-pub(crate) fn read_settings<'a, F: Files>(
+/// Writes the report on the code of the settings of that name.
+pub(crate) fn report_code<'a, F: Files, O: Sink>(
+    alloc: Global,
+    settings: &'a str,
+    files: &mut F,
+    out: &mut O,
+) -> Ended<'a>
+    ensures answers { Answers (code_command settings.now) (F.seen files.old) (F.seen files.new) (O.seen out.old) (O.seen out.new) (answer_of result) }
+    ensures later { IsLater (F.seen files.old) (F.seen files.new) }
+{
+    let report = read_settings(alloc, settings, files)?;
+    write_report(&report, out)?;
+    Ok(Success::Done)
+}
+
+// Loads and reads the settings, and measures their code.
+fn read_settings<'a, F: Files>(
     alloc: Global,
     settings: &'a str,
     files: &mut F,
@@ -66,8 +83,8 @@ fn measure(code: &Code) -> Report
     }
 }
 
-/// Writes the report, a line for each number.
-pub(crate) fn write_report<O: Sink>(report: &Report, out: &mut O) -> Result<(), SinkFault>
+// Writes the report, a line for each number.
+fn write_report<O: Sink>(report: &Report, out: &mut O) -> Result<(), SinkFault>
     requires { report.now.data_places ≤ 12 }
     ensures { Puts (O.seen out.old) (report_lines report.now) result (O.seen out.new) }
 {

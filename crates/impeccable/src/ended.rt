@@ -1,15 +1,24 @@
-// How a command ended, and what its line on the error output tells.
-ghost use Rattle.std.specs.Prelude.{◌≡◌, OnErr};
-ghost use Rattle.impeccable.specs.Ended.{Says, PutsAnswer, answer_of, outcome_of};
+// How a command ends.
+ghost use Rattle.impeccable.specs.Ended.{answer_of};
+ghost use Rattle.impeccable.specs.Outcome.{IsAnswer};
 
-use crate::error_line::{put_named, put_refusal};
 use crate::{Outcome, Refusal};
-use imp_io::{Sink, SinkFault};
+use blif_read::BlifFault;
+use blif_write::WriteRefusal;
+use imp_io::SinkFault;
+use settings::SetFault;
+use std::alloc::AllocError;
 
-/// How a command ended, with the name of the file whose load failed.
-#[derive(Debug, Drop)]
-pub(crate) enum Ended<'a> {
+/// How a command ends that wrote its whole text.
+#[derive(Clone, Copy, Debug)]
+pub(crate) enum Success {
     Done,
+    Found,
+}
+
+/// Why a command stopped, with the name of the file whose load failed.
+#[derive(Debug, Drop)]
+pub(crate) enum Stop<'a> {
     Usage,
     Refused(Refusal),
     ReadFault(&'a str),
@@ -17,40 +26,110 @@ pub(crate) enum Ended<'a> {
     NoMemory,
 }
 
-impl<'a> Ended<'a> {
-    pub(crate) fn into_outcome(self) -> Outcome
-        ensures { result ≡ outcome_of self.entry }
-    {
-        match self {
-            Ended::Done => Outcome::Done,
-            Ended::Usage => Outcome::Usage,
-            Ended::Refused(refusal) => Outcome::Refused(refusal),
-            Ended::ReadFault(_) => Outcome::ReadFault,
-            Ended::WriteFault => Outcome::WriteFault,
-            Ended::NoMemory => Outcome::NoMemory,
+/// How a command ends. Its steps are joined by `?`.
+pub(crate) type Ended<'a> = Result<Success, Stop<'a>>;
+
+/// The same without the name.
+pub(crate) fn outcome_of(ended: Ended<'_>) -> Outcome
+    ensures { IsAnswer result (answer_of ended.entry) }
+{
+    match ended {
+        Ok(Success::Done) => Outcome::Done,
+        Ok(Success::Found) => Outcome::Found,
+        Err(Stop::Usage) => Outcome::Usage,
+        Err(Stop::Refused(refusal)) => Outcome::Refused(refusal),
+        Err(Stop::ReadFault(_)) => Outcome::ReadFault,
+        Err(Stop::WriteFault) => Outcome::WriteFault,
+        Err(Stop::NoMemory) => Outcome::NoMemory,
+    }
+}
+
+impl<'a> From<AllocError> for Stop<'a> {
+    ghost use Rattle.std.specs.Prelude.{◌≡◌};
+    ghost use Rattle.program_spec.specs.ErrorLines.{no_memory};
+    ghost use Rattle.impeccable.specs.Ended.{stop_answer};
+
+    ghost from_gives = { λ _ stop. stop_answer stop ≡ no_memory };
+
+    fn from(_: AllocError) -> Self {
+        Stop::NoMemory
+    }
+}
+
+impl<'a> From<SinkFault> for Stop<'a> {
+    ghost use Rattle.std.specs.Prelude.{◌≡◌};
+    ghost use Rattle.impeccable.specs.Ended.{sink_answer, stop_answer};
+
+    ghost from_gives = { λ fault stop. stop_answer stop ≡ sink_answer fault };
+
+    fn from(fault: SinkFault) -> Self {
+        match fault {
+            SinkFault::Failed => Stop::WriteFault,
+            SinkFault::NoMemory => Stop::NoMemory,
         }
     }
 }
 
-/// Puts the line of an answer to the error output, and nothing for a success. What the puts answer changes nothing.
-pub(crate) fn tell<E: Sink>(ended: &Ended, err: &mut E)
-    ensures { Says (answer_of ended.now) (E.seen err.old) (E.seen err.new) }
-{
-    let _ = put_answer(ended, err);
+impl<'a> From<WriteRefusal> for Stop<'a> {
+    ghost use Rattle.std.specs.Prelude.{◌≡◌};
+    ghost use Rattle.impeccable.specs.Ended.{stop_answer, write_answer};
+
+    ghost from_gives = { λ fault stop. stop_answer stop ≡ write_answer fault };
+
+    fn from(fault: WriteRefusal) -> Self {
+        match fault {
+            WriteRefusal::Fault => Stop::WriteFault,
+            WriteRefusal::NoMemory => Stop::NoMemory,
+        }
+    }
 }
 
-// Puts the line up to the first put that fails.
-pub(crate) fn put_answer<E: Sink>(ended: &Ended, err: &mut E) -> Result<(), SinkFault>
-    ensures { PutsAnswer (answer_of ended.now) (E.seen err.old) result (E.seen err.new) }
-{
-    match ended {
-        Ended::Done => Ok(()),
-        Ended::Usage => err.put(
-            b"impeccable: usage: flat NETLIST, code SETTINGS, guard SETTINGS NETLIST, sim NETLIST STIMULUS SCRIPT, audit NETLIST, campaign SETTINGS NETLIST STIMULUS CYCLE, demo N\n",
-        ),
-        Ended::Refused(refusal) => put_refusal(refusal, err),
-        Ended::ReadFault(name) => put_named(b"impeccable: cannot read ", name.as_bytes(), err),
-        Ended::WriteFault => err.put(b"impeccable: cannot write\n"),
-        Ended::NoMemory => err.put(b"impeccable: no memory\n"),
+impl<'a> From<BlifFault> for Stop<'a> {
+    ghost use Rattle.std.specs.Prelude.{◌≡◌};
+    ghost use Rattle.blif_read.specs.Faults.{fault_of};
+    ghost use Rattle.netlist_spec.specs.ReadFaults.{ReadFault};
+    ghost use Rattle.program_spec.specs.Refusals.{unreadable};
+    ghost use Rattle.impeccable.specs.Ended.{fault_answer, stop_answer};
+
+    ghost from_gives = { λ fault stop. stop_answer stop ≡ fault_answer ReadFault unreadable (fault_of fault) };
+
+    fn from(fault: BlifFault) -> Self {
+        match fault {
+            BlifFault::UnknownStatement(line, word) => Stop::Refused(Refusal::UnknownStatement(
+                line, word,
+            )),
+            BlifFault::BadRow(line) => Stop::Refused(Refusal::BadRow(line)),
+            BlifFault::MixedCover(line) => Stop::Refused(Refusal::MixedCover(line)),
+            BlifFault::BadLatch(line) => Stop::Refused(Refusal::BadLatch(line)),
+            BlifFault::NoModel(line) => Stop::Refused(Refusal::NoModel(line)),
+            BlifFault::LongName(line) => Stop::Refused(Refusal::LongName(line)),
+            BlifFault::TooMany(line, what) => Stop::Refused(Refusal::TooMany(line, what)),
+            BlifFault::TwiceModel(line, name) => Stop::Refused(Refusal::TwiceModel(line, name)),
+            BlifFault::BadSubckt(line) => Stop::Refused(Refusal::BadSubckt(line)),
+            BlifFault::AfterEnd(line) => Stop::Refused(Refusal::AfterEnd(line)),
+            BlifFault::WordCount(line) => Stop::Refused(Refusal::WordCount(line)),
+            BlifFault::NoMemory => Stop::NoMemory,
+        }
+    }
+}
+
+impl<'a> From<SetFault> for Stop<'a> {
+    ghost use Rattle.std.specs.Prelude.{◌≡◌};
+    ghost use Rattle.settings.specs.Faults.{fault_of};
+    ghost use Rattle.guard_spec.specs.SettingsFile.{SettingsFault};
+    ghost use Rattle.program_spec.specs.Refusals.{bad_settings};
+    ghost use Rattle.impeccable.specs.Ended.{fault_answer, stop_answer};
+
+    ghost from_gives = { λ fault stop. stop_answer stop ≡ fault_answer SettingsFault bad_settings (fault_of fault) };
+
+    fn from(fault: SetFault) -> Self {
+        match fault {
+            SetFault::NotToml => Stop::Refused(Refusal::NotToml),
+            SetFault::Missing(key) => Stop::Refused(Refusal::Missing(key)),
+            SetFault::BadValue(key) => Stop::Refused(Refusal::BadValue(key)),
+            SetFault::UnknownKey(key) => Stop::Refused(Refusal::UnknownKey(key)),
+            SetFault::BadShape => Stop::Refused(Refusal::BadShape),
+            SetFault::NoMemory => Stop::NoMemory,
+        }
     }
 }

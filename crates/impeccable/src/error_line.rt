@@ -2,16 +2,41 @@
 ghost use Rattle.std.specs.Prelude.{◌≡◌, ◌∷◌, ◌++◌, [], decimal};
 ghost use Rattle.imp_io.specs.Sink.{Puts};
 ghost use Rattle.program_spec.specs.ErrorLines.{error_line, refusal_text};
-ghost use Rattle.impeccable.specs.Ended.{named_line, place_text};
+ghost use Rattle.impeccable.specs.Ended.{answer_of};
 ghost use Rattle.impeccable.specs.Outcome.{refusal_of};
+ghost use Rattle.impeccable.specs.Says.{PutsAnswer, Says, named_line, place_text};
 
 use crate::Refusal;
+use crate::ended::{Ended, Stop};
 use crate::escaped::put_escaped;
 use imp_io::{Sink, SinkFault};
 use itoa::Buffer;
 
+/// Puts the line of an answer to the error output, and nothing for a success. What the puts answer changes nothing.
+pub(crate) fn tell<E: Sink>(ended: &Ended<'_>, err: &mut E)
+    ensures { Says (answer_of ended.now) (E.seen err.old) (E.seen err.new) }
+{
+    let _ = put_answer(ended, err);
+}
+
+// Puts the line up to the first put that fails.
+fn put_answer<E: Sink>(ended: &Ended<'_>, err: &mut E) -> Result<(), SinkFault>
+    ensures { PutsAnswer (answer_of ended.now) (E.seen err.old) result (E.seen err.new) }
+{
+    match ended {
+        Ok(_) => Ok(()),
+        Err(Stop::Usage) => err.put(
+            b"impeccable: usage: flat NETLIST, code SETTINGS, guard SETTINGS NETLIST, sim NETLIST STIMULUS SCRIPT, audit NETLIST, campaign SETTINGS NETLIST STIMULUS CYCLE, demo N\n",
+        ),
+        Err(Stop::Refused(refusal)) => put_refusal(refusal, err),
+        Err(Stop::ReadFault(name)) => put_named(b"impeccable: cannot read ", name.as_bytes(), err),
+        Err(Stop::WriteFault) => err.put(b"impeccable: cannot write\n"),
+        Err(Stop::NoMemory) => err.put(b"impeccable: no memory\n"),
+    }
+}
+
 // The line of a refusal.
-pub(crate) fn put_refusal<E: Sink>(refusal: &Refusal, err: &mut E) -> Result<(), SinkFault>
+fn put_refusal<E: Sink>(refusal: &Refusal, err: &mut E) -> Result<(), SinkFault>
     ensures { Puts (E.seen err.old) (error_line (refusal_text (refusal_of refusal.now))) result (E.seen err.new) }
 {
     match refusal {
@@ -72,7 +97,7 @@ fn put_place<E: Sink>(number: &[u8], line: u32, err: &mut E) -> Result<(), SinkF
 }
 
 // A text, a name as it is printed, and the end of the line.
-pub(crate) fn put_named<E: Sink>(front: &[u8], name: &[u8], err: &mut E) -> Result<(), SinkFault>
+fn put_named<E: Sink>(front: &[u8], name: &[u8], err: &mut E) -> Result<(), SinkFault>
     ensures { Puts (E.seen err.old) (named_line front.now name.now) result (E.seen err.new) }
 {
     err.put(front)?;

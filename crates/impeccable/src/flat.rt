@@ -1,4 +1,4 @@
-// The command `flat NETLIST`, up to what it writes.
+// The command `flat NETLIST`.
 ghost use Rattle.std.specs.Prelude.{ℕ, List, All, IfOk};
 ghost use Rattle.imp_io.specs.Files.{IsLater};
 ghost use Rattle.program_spec.specs.Commands.{flat as flat_command};
@@ -9,25 +9,43 @@ ghost use Rattle.netlist_spec.specs.Reads.{Reads};
 ghost use Rattle.netlist_spec.specs.WrittenText.{IsFlatText};
 ghost use Rattle.blif_read.specs.Ids.{HasIds};
 ghost use Rattle.blif_read.specs.View.{file_of};
+ghost use Rattle.impeccable.specs.Answers.{Answers};
+ghost use Rattle.impeccable.specs.Ended.{answer_of};
 ghost use Rattle.impeccable.specs.Flat.{named_text};
-ghost use Rattle.impeccable.specs.Stop.{Prepares};
+ghost use Rattle.impeccable.specs.Steps.{Prepares};
 
 use crate::Refusal;
+use crate::ended::{Ended, Stop, Success};
 use crate::load::load_named;
-use crate::stop::Stop;
 use blif_read::{File, read};
+use blif_write::write;
 use elaborate::{
     elaborate_ready, elaborated_sources_stand_for_their_files, flat, flat_netlists_are_flat,
     is_flat_ready, name_flat,
 };
-use imp_io::Files;
+use imp_io::{Files, Sink};
 use named_netlist::Named;
 use std::alloc::{AllocError, Global};
 
 const LONGEST_NETLIST: usize = 268_435_456;
 
-/// Loads and reads the netlist, and makes its flat netlist.
-pub(crate) fn read_netlist<'a, F: Files>(
+/// Writes the flat netlist of the netlist of that name.
+pub(crate) fn write_flat<'a, F: Files, O: Sink>(
+    alloc: Global,
+    netlist: &'a str,
+    files: &mut F,
+    out: &mut O,
+) -> Ended<'a>
+    ensures answers { Answers (flat_command netlist.now) (F.seen files.old) (F.seen files.new) (O.seen out.old) (O.seen out.new) (answer_of result) }
+    ensures later { IsLater (F.seen files.old) (F.seen files.new) }
+{
+    let named = read_netlist(alloc, netlist, files)?;
+    write(&named, out)?;
+    Ok(Success::Done)
+}
+
+// Loads and reads the netlist, and makes its flat netlist.
+fn read_netlist<'a, F: Files>(
     alloc: Global,
     netlist: &'a str,
     files: &mut F,

@@ -10,7 +10,6 @@ mod flat;
 mod load;
 mod outcome;
 mod program;
-mod stop;
 
 pub use outcome::{Outcome, Refusal};
 pub use program::run;

@@ -1,9 +1,9 @@
 // The load of a file that a command names.
 ghost use Rattle.imp_io.specs.Files.{IsLater};
-ghost use Rattle.impeccable.specs.Stop.{LoadsNamed};
+ghost use Rattle.impeccable.specs.Steps.{LoadsNamed};
 
 use crate::Refusal;
-use crate::stop::Stop;
+use crate::ended::Stop;
 use blif_read::Text;
 use imp_io::{Files, LoadFault};
 use std::alloc::Global;

@@ -1,5 +1,5 @@
 -- The register that turns its bit, with a code of two places, is accepted.
-use Rattle.std.proofs.Common.{◌≡◌, refl, ◌<◌, ◌≤◌, [], ◌∷◌, length, codes, true, false, Ok, inl, arith, lit<, lit≤}
+use Rattle.std.proofs.Common.{◌≡◌, refl, ◌<◌, ◌≤◌, [], ◌∷◌, length, codes, true, false, Ok, inl, inr, arith, lit<, lit≤}
 use Rattle.std.specs.Str.{chars, is_utf8}
 use Rattle.toml.proofs.OnLiterals.{toml_on_literals}
 use Rattle.netlist_spec.specs.SourceRun.{Bits}
@@ -27,23 +27,7 @@ parity_distance =
 
 pub inverter_is_accepted : IsAccepted inverter_contents (codes "s.toml") (codes "inv.blif")
 inverter_is_accepted =
-    rw parity_is_read (
-      2,
-      parity_distance,
-      inl (
-        inverter_file,
-        inverter_reads,
-        inl (
-          inverter_is_sound,
-          (
-            inverter_model,
-            refl,
-            (
-              inverter_layout,
-              record { state = (refl, (lit≤ tt, lit≤ tt)); output = (refl, (lit≤ tt, lit≤ tt)) },
-              (38, inverter_plain, refl),
-            ),
-          ),
-        ),
-      ),
-    )
+    let sized = inl (tt, (38, inverter_plain, lit≤ tt), refl) in
+    let words = record { state = (refl, (lit≤ tt, lit≤ tt)); output = (refl, (lit≤ tt, lit≤ tt)) } in
+    let read = inl (inverter_file, inverter_reads, inl (tt, inverter_is_sound, inl (inverter_model, refl, inl (inverter_layout, (refl, words), sized)))) in
+    inr (lit≤ tt, inl (parity_settings, parity_is_read, inl (tt, (2, parity_distance, lit≤ tt), inr (lit≤ tt, read))))

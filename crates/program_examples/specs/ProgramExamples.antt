@@ -3,7 +3,7 @@ use Rattle.std.specs.Prelude.{ℕ, List, [], ◌∷◌, ◌++◌, map, codes, tr
 use Rattle.std.specs.List.{flat_map}
 use Rattle.netlist_spec.specs.Netlist.{Name, same_name, plain, names, latch, subckt, Model, File, Statement}
 use Rattle.guard_spec.specs.Words.{Layout}
-use Rattle.program_spec.specs.Verdict.{Contents}
+use Rattle.program_spec.specs.Walk.{Contents}
 use Rattle.program_spec.specs.Demo.{numbered, state_bits, moved_to, box_binds}
 use Rattle.spec_examples.specs.Examples.{inverter_text, buffer_cover}
 

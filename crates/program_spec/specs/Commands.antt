@@ -24,16 +24,6 @@ netlist_limit = 268435456
 abbrev pub other_limit : ℕ
 other_limit = 16777216
 
--- A file that a command names, and how many bytes it may have.
-pub record NamedFile : Type 0 where
-  pub name : List ℕ
-  pub limit : ℕ
-
--- the files of a command, in the order of their loads
-abbrev pub files_of : Command → List NamedFile
-files_of (flat netlist) = record { name = netlist; limit = netlist_limit } ∷ []
-files_of (code settings) = record { name = settings; limit = other_limit } ∷ []
-
 -- The cycle of a campaign is 1 to 6 digits; the size of a demo is 1 or 2 digits with a value from 1 to 64.
 abbrev pub is_cycle : List ℕ → Bool
 is_cycle w = is_some (decimal_of 999999 w)

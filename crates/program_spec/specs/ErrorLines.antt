@@ -1,4 +1,4 @@
--- What a run of the program may come to, the status that it ends with, and the line that it puts to its error output.
+-- What a run of the program may come to, and the line that it puts to its error output.
 use Rattle.std.specs.Prelude.{ℕ, List, [], ◌∷◌, ◌++◌, codes, decimal, Option, Some, None}
 use Rattle.std.specs.List.{flat_map}
 use Rattle.netlist_spec.specs.ReadFaults.{ReadFault, unknown_statement, bad_row, mixed_cover, bad_latch, no_model, long_name, too_many, twice_model, bad_subckt, after_end, word_count}
@@ -109,13 +109,3 @@ answer_line (refused refusal) = Some (error_line (refusal_text refusal))
 answer_line (read_fault name) = Some (error_line (cannot_read_text name))
 answer_line write_fault = Some (error_line cannot_write_text)
 answer_line no_memory = Some (error_line no_memory_text)
-
--- the status with which the program ends
-abbrev pub answer_status : Answer → ℕ
-answer_status done = 0
-answer_status (refused refusal) = 1
-answer_status usage = 2
-answer_status (read_fault name) = 3
-answer_status write_fault = 4
-answer_status no_memory = 5
-answer_status found = 6

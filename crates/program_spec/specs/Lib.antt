@@ -2,6 +2,8 @@ pub mod Commands
 pub mod Stimulus
 pub mod Refusals
 pub mod Printed
+pub mod Walk
+pub mod Steps
 pub mod Verdict
 pub mod ErrorLines
 pub mod Demo

@@ -1,22 +1,23 @@
 -- The outcome is that of the command that was asked for.
-use Rattle.impeccable.proofs.AnswersLemmas.{asked-answers, asked-completes, asked-refuses, unasked}
+use Rattle.impeccable.specs.Ended.{answer_of}
+use Rattle.impeccable.proofs.OutcomeLemmas.{asked-completes, asked-finds, asked-refuses, unasked}
 use Rattle.impeccable.proofs.program.run.Goals as goal
 use Rattle.impeccable.proofs.program.run.Goals.{in-Some, in-None}
 
-pub returns-clause-answers : goal.returns-clause-answers
-returns-clause-answers g c = elim c.match-read_command.branch [
-  | in-Some w ↦ rw (w.files-is, w.out-is) (asked-answers _ _ (g.F.Files.seen c.args.files.now) (g.F.Files.seen w.perform-ended.new.files) (g.O.Sink.seen c.args.out.now) (g.O.Sink.seen w.perform-ended.new.out) w.perform-ended.result c.into_outcome.result (rw w.in-Some.is at c.read_command.ensures) (rw w.ended-is at c.into_outcome.ensures) w.perform-ended.ensures.ends)
+pub returns-clause-complete : goal.returns-clause-complete
+returns-clause-complete g c = elim c.match-read_command.branch [
+  | in-Some w ↦ rw (w.files-is, w.out-is) (asked-completes _ _ (g.F.Files.seen c.args.files.now) (g.F.Files.seen w.perform-ended.new.files) (g.O.Sink.seen c.args.out.now) (g.O.Sink.seen w.perform-ended.new.out) (answer_of w.perform-ended.result) c.outcome_of.result (rw w.in-Some.is at c.read_command.ensures) (rw w.ended-is at c.outcome_of.ensures) w.perform-ended.ensures.answers)
   | in-None w ↦ unasked _ _ (rw w.in-None.is at c.read_command.ensures)
 ]
 
-pub returns-clause-complete : goal.returns-clause-complete
-returns-clause-complete g c = elim c.match-read_command.branch [
-  | in-Some w ↦ rw (w.files-is, w.out-is) (asked-completes _ _ (g.F.Files.seen c.args.files.now) (g.F.Files.seen w.perform-ended.new.files) (g.O.Sink.seen c.args.out.now) (g.O.Sink.seen w.perform-ended.new.out) w.perform-ended.result c.into_outcome.result (rw w.in-Some.is at c.read_command.ensures) (rw w.ended-is at c.into_outcome.ensures) w.perform-ended.ensures.ends)
+pub returns-clause-finds : goal.returns-clause-finds
+returns-clause-finds g c = elim c.match-read_command.branch [
+  | in-Some w ↦ rw (w.files-is, w.out-is) (asked-finds _ _ (g.F.Files.seen c.args.files.now) (g.F.Files.seen w.perform-ended.new.files) (g.O.Sink.seen c.args.out.now) (g.O.Sink.seen w.perform-ended.new.out) (answer_of w.perform-ended.result) c.outcome_of.result (rw w.in-Some.is at c.read_command.ensures) (rw w.ended-is at c.outcome_of.ensures) w.perform-ended.ensures.answers)
   | in-None w ↦ unasked _ _ (rw w.in-None.is at c.read_command.ensures)
 ]
 
 pub returns-clause-refuses : goal.returns-clause-refuses
 returns-clause-refuses g c = elim c.match-read_command.branch [
-  | in-Some w ↦ rw w.files-is (asked-refuses _ _ (g.F.Files.seen c.args.files.now) (g.F.Files.seen w.perform-ended.new.files) (g.O.Sink.seen c.args.out.now) (g.O.Sink.seen w.perform-ended.new.out) w.perform-ended.result c.into_outcome.result (rw w.in-Some.is at c.read_command.ensures) (rw w.ended-is at c.into_outcome.ensures) w.perform-ended.ensures.ends)
+  | in-Some w ↦ rw w.files-is (asked-refuses _ _ (g.F.Files.seen c.args.files.now) (g.F.Files.seen w.perform-ended.new.files) (g.O.Sink.seen c.args.out.now) (g.O.Sink.seen w.perform-ended.new.out) (answer_of w.perform-ended.result) c.outcome_of.result (rw w.in-Some.is at c.read_command.ensures) (rw w.ended-is at c.outcome_of.ensures) w.perform-ended.ensures.answers)
   | in-None w ↦ unasked _ _ (rw w.in-None.is at c.read_command.ensures)
 ]
