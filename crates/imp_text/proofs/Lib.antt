@@ -5,3 +5,4 @@ pub mod WordLemmas
 pub mod TokenLemmas
 pub mod LinesLemmas
 pub mod NamesLemmas
+pub mod NameOrder

@@ -2,7 +2,9 @@
 #![tactic(auto)]
 
 mod layer;
+mod named;
 mod parities;
 
 pub use layer::{Linear, NamedLinear};
+pub use named::find_in_byte_order;
 pub use parities::lower;
