@@ -3,6 +3,7 @@ use Rattle.std.proofs.Common.{◌≡◌, refl, sym, ◌∙◌, ap, ap₂, ℕ, z
 use Rattle.std.proofs.lemmas.List.{append-nil}
 use Rattle.std.specs.Str.{chars, is_utf8}
 use Rattle.std.specs.List.{range_with_len}
+use Rattle.std.specs.List.Sorted.{IsStrictlySortedBy}
 use Rattle.toml.proofs.OnLiterals.{toml_on_literals}
 use Rattle.netlist_spec.specs.Netlist.{Name, stands_in}
 use Rattle.netlist_spec.specs.Models.{data_inputs, output_nets, latch_outputs}
@@ -39,6 +40,7 @@ unfolding toml_on_literals settings_of_bytes is_utf8 chars
 text_is_read = refl
 
 pub settings_are : IsSettings demo_settings
+unfolding IsStrictlySortedBy
 settings_are =
     record {
       bound = (lit≤ tt, lit≤ tt);
@@ -59,6 +61,8 @@ settings_are =
         );
         linears = tt;
       };
+      table_order = (tt, tt);
+      linear_order = tt;
     }
 
 -- ---- words in order are one layout

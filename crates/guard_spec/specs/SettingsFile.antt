@@ -1,7 +1,10 @@
 -- What a settings file stands for: a table over the tree that a TOML document is.
 use Rattle.std.specs.Prelude.{ℕ, ◌^◌, ◌-◌, ◌≤◌, pos, IfSome, ⊤, ◌&&◌, List, [], ◌∷◌, ◌++◌, length, map, find, not, codes, Option, Some, None, Result, Ok, Err, nat_le, ◌==◌, if◌then◌else◌, option_map, ok_or, slice_index_or}
 use Rattle.std.specs.Bool.{then_some}
+use Rattle.std.specs.Cmp.Lexicographic.{slice_cmp}
 use Rattle.std.specs.List.{list_all, AllByRecursion}
+use Rattle.std.specs.List.Sorted.{IsStrictlySortedBy}
+use Rattle.std.specs.Ordering.{nat_cmp}
 use Rattle.std.specs.Str.{is_utf8}
 use Rattle.toml.specs.Data.{Data, string, integer, array, table, Items, no_items, item, Members, no_members, member, get_member}
 use Rattle.toml.specs.Parse.{parse_document}
@@ -157,6 +160,10 @@ sbox_entry e = do
 abbrev pub linear_of : List Bits → Linear
 linear_of rows = record { rows = map number_of rows; width = length (slice_index_or rows 0 []) }
 
+-- an array of 1 to 128 texts, all of one length from 1 to 128, of `0` and `1` alone
+abbrev pub layer_of : Data → Option Linear
+layer_of d = option_map linear_of (then_gives (texts_of d) (bit_rows 128 128))
+
 -- An entry whose name stands in `sbox` is at fault.
 abbrev pub linear_entry : List Name → List ℕ × Data → Result NamedLinear SettingsFault
 linear_entry taken e =
@@ -165,9 +172,9 @@ linear_entry taken e =
     go : Result NamedLinear SettingsFault
     go = do
       ms ← entry_members (dotted (codes "linear") e.0) e.0 e.1
-      rows ← needed (dotted (dotted (codes "linear") e.0) (codes "rows")) (codes "rows") (λ d. then_gives (texts_of d) (bit_rows 128 128)) ms
+      layer ← needed (dotted (dotted (codes "linear") e.0) (codes "rows")) (codes "rows") layer_of ms
       _ ← no_other_key (dotted (dotted (codes "linear") e.0)) (codes "rows" ∷ []) ms
-      Ok (record { name = e.0; layer = linear_of rows })
+      Ok (record { name = e.0; layer = layer })
 
 -- an absent table has no entries
 abbrev pub entries_of : Option Members → List (List ℕ × Data)
@@ -235,10 +242,13 @@ settings_without_library_of bytes = if is_utf8 bytes then of_document_without_li
 abbrev pub AreWordNames : ℕ → List (List Name) → Type 0
 AreWordNames k words = AllByRecursion (λ w. (1 ≤ length w) × (length w ≤ k) × AllByRecursion IsName w) words
 
--- what holds of all settings that are read
+-- what holds of all settings that are read: among the rest, the tables and the layers of the library stand in byte order
+-- of their names
 pub record IsSettings (s : Settings) : Type 0 where
   pub bound : (1 ≤ s.bound) × (s.bound ≤ 16)
   pub code : IsCode s.code
   pub state_words : IfSome s.state_words (AreWordNames (data_places s.code))
   pub output_words : IfSome s.output_words (AreWordNames (data_places s.code))
   pub library : IsLibrary s.library
+  pub table_order : IsStrictlySortedBy (slice_cmp nat_cmp) (map (λ t. t.name) s.library.tables)
+  pub linear_order : IsStrictlySortedBy (slice_cmp nat_cmp) (map (λ l. l.name) s.library.linears)

@@ -24,7 +24,7 @@ gives_map g f (x ∷ xs) =
     gives_step f (g x) (map g xs) (f (g x)) (each_gives (λ y. f (g y)) xs) refl (gives_map g f xs)
     ∙ sym (gives_step (λ y. f (g y)) x xs (f (g x)) (each_gives (λ y. f (g y)) xs) refl refl)
 
-joined_none : {B : Type 0} (o : Option B) → joined o None ≡ None
+pub joined_none : {B : Type 0} (o : Option B) → joined o None ≡ None
 joined_none None = refl
 joined_none (Some y) = refl
 

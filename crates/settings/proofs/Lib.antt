@@ -6,3 +6,7 @@ pub mod Texts
 pub mod OtherKeys
 pub mod Shape
 pub mod Documents
+pub mod EachEntry
+pub mod EntryShapes
+pub mod Layers
+pub mod LibraryShape

@@ -1,17 +1,22 @@
 -- What holds of all settings that are read.
-use Rattle.std.proofs.Common.{◌≡◌, ℕ, ◌≤◌, Bool, true, false, List, length, Option, None, Some, Ok, option_map, refl, subst, arith}
+use Rattle.std.proofs.Common.{◌≡◌, ℕ, ◌≤◌, Bool, true, false, List, length, map, nat_cmp, Option, None, Some, Ok, option_map, refl, sym, subst, arith}
 use Rattle.std.specs.Prelude.{◌&&◌, nat_le, if◌then◌else◌, IfSome, ok_or, codes}
 use Rattle.std.specs.Bool.{then_some}
+use Rattle.std.specs.Cmp.Lexicographic.{slice_cmp}
 use Rattle.std.specs.List.{AllByRecursion}
+use Rattle.std.specs.List.Sorted.{IsStrictlySortedBy}
 use Rattle.std.proofs.lemmas.Bool.Decides.{nat_tests}
 use Rattle.netlist_spec.specs.Digits.{each_gives}
 use Rattle.netlist_spec.specs.Netlist.{Name, IsName}
-use Rattle.netlist_spec.specs.Covers.{IsLibrary, empty_library}
+use Rattle.netlist_spec.specs.Covers.{NamedTable, NamedLinear, IsLibrary}
 use Rattle.guard_spec.specs.SettingsFile.{bad_value, as_items, as_text, name_of, word_of, words_of, then_gives, AreWordNames, IsSettings, optional}
 use Rattle.guard_spec.specs.Codes.{IsCode, data_places}
 use Rattle.settings.specs.declared.types.Settings.TheInside.{Inside}
-use Rattle.settings.specs.Types.{settings_in, words_in}
+use Rattle.settings.specs.Types.{settings_in, library_in, words_in}
 use Rattle.toml.specs.Data.{Data, Members, get_member}
+use Rattle.sbox_table.specs.Named.{named_table_of}
+use Rattle.linear_layer.specs.Named.{named_linear_of}
+use Rattle.settings.proofs.EachEntry.{map_twice}
 use Rattle.settings.proofs.Gives.{gives_each, gives_length}
 
 name_from : (o : Option (List ℕ)) (n : Name) → then_gives o (λ text. then_some (nat_le 1 (length text) && nat_le (length text) 255) text) ≡ Some n → IsName n
@@ -75,19 +80,19 @@ optional_words k key doc ws e = at (get_member key doc) refl
         let found : ok_or (option_map (λ x. Some x) (words_of k d)) (bad_value key) ≡ Ok ws = rw p at e in
         optional_from k key (words_of k d) ws found (λ given h. words_from k (as_items d) given h)
 
-no_library : IsLibrary empty_library
-no_library = record { distinct = refl; names = tt; tables = tt; linears = tt }
-
 -- the settings that are made of what the keys give
 pub made_settings : (s : Inside) (k j : ℕ) (doc : Members) → (1 ≤ s.bound) × (s.bound ≤ 16) → IsCode s.code → k ≡ data_places s.code → j ≡ data_places s.code
     → optional (codes "state_words") (codes "state_words") (words_of k) doc ≡ Ok (option_map words_in s.state_words)
     → optional (codes "output_words") (codes "output_words") (words_of j) doc ≡ Ok (option_map words_in s.output_words)
+    → IsLibrary (library_in s.tables s.linears) → IsStrictlySortedBy (slice_cmp nat_cmp) (map (λ t. t.name) s.tables.items) → IsStrictlySortedBy (slice_cmp nat_cmp) (map (λ l. l.name) s.linears.items)
     → IsSettings (settings_in s)
-made_settings s k j doc bound code ks js states outs =
+made_settings s k j doc bound code ks js states outs library tables_up linears_up =
     record {
       bound = bound;
       code = code;
       state_words = subst (λ (n : ℕ). IfSome (option_map words_in s.state_words) (AreWordNames n)) ks (optional_words k (codes "state_words") doc (option_map words_in s.state_words) states);
       output_words = subst (λ (n : ℕ). IfSome (option_map words_in s.output_words) (AreWordNames n)) js (optional_words j (codes "output_words") doc (option_map words_in s.output_words) outs);
-      library = no_library;
+      library = library;
+      table_order = subst (IsStrictlySortedBy (slice_cmp nat_cmp)) (sym (map_twice named_table_of (λ (t : NamedTable). t.name) s.tables.items)) tables_up;
+      linear_order = subst (IsStrictlySortedBy (slice_cmp nat_cmp)) (sym (map_twice named_linear_of (λ (l : NamedLinear). l.name) s.linears.items)) linears_up;
     }

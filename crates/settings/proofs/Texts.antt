@@ -47,27 +47,27 @@ rows_texts w (d ∷ ds) texts all = at (as_text d) (each_gives as_text ds) refl 
         let same : texts ≡ t ∷ ts = let e = sym all ∙ gives_step as_text d ds (Some t) (Some ts) p q in cc in
         gives_step (row_at w) d ds _ _ (row_text w d t p) (later ts q) ∙ (rows_step w t ts ∙ ap (rows_at w) (sym same))
 
-module _ (ds : List Data) (texts : List (List ℕ)) (all : each_gives as_text ds ≡ Some texts) where
-  pub no_rows : length ds < 1 → bit_rows 12 16 texts ≡ None
+module _ (most_rows most_columns : ℕ) (ds : List Data) (texts : List (List ℕ)) (all : each_gives as_text ds ≡ Some texts) where
+  pub no_rows : length ds < 1 → bit_rows most_rows most_columns texts ≡ None
   no_rows few =
       let n = gives_length as_text ds texts all in
       let a : nat_le 1 (length texts) ≡ false = grind (arith, nat_tests) in
       rw a refl
 
-  pub many_rows : 12 < length ds → bit_rows 12 16 texts ≡ None
-  many_rows many =
+  pub many_rows : 1 ≤ most_rows → most_rows < length ds → bit_rows most_rows most_columns texts ≡ None
+  many_rows some many =
       let n = gives_length as_text ds texts all in
       let a : nat_le 1 (length texts) ≡ true = grind (arith, nat_tests) in
-      let b : nat_le (length texts) 12 ≡ false = grind (arith, nat_tests) in
+      let b : nat_le (length texts) most_rows ≡ false = grind (arith, nat_tests) in
       rw (a, b) refl
 
-  pub some_rows : (w : ℕ) → 1 ≤ length ds → length ds ≤ 12 → 1 ≤ w → w ≤ 16 → length (slice_index_or texts 0 []) ≡ w → bit_rows 12 16 texts ≡ each_gives (row_at w) ds
+  pub some_rows : (w : ℕ) → 1 ≤ length ds → length ds ≤ most_rows → 1 ≤ w → w ≤ most_columns → length (slice_index_or texts 0 []) ≡ w → bit_rows most_rows most_columns texts ≡ each_gives (row_at w) ds
   some_rows w some few wide narrow first =
       let n = gives_length as_text ds texts all in
       let a : nat_le 1 (length texts) ≡ true = grind (arith, nat_tests) in
-      let b : nat_le (length texts) 12 ≡ true = grind (arith, nat_tests) in
+      let b : nat_le (length texts) most_rows ≡ true = grind (arith, nat_tests) in
       let c : nat_le 1 w ≡ true = grind (arith, nat_tests) in
-      let d : nat_le w 16 ≡ true = grind (arith, nat_tests) in
+      let d : nat_le w most_columns ≡ true = grind (arith, nat_tests) in
       rw (first, a, b, c, d) (sym (rows_texts w ds texts all))
 
 -- the first text
@@ -83,12 +83,12 @@ first_length d ds texts w all long = at (as_text d) (each_gives as_text ds) refl
         let width : w ≡ length t = let e = long ∙ here in cc in
         rw same (sym width)
 
-pub value_rows : (vs : List Value) (v : Value) (texts : List (List ℕ)) (w : ℕ) → each_gives as_text (map view vs) ≡ Some texts → 1 ≤ length vs → length vs ≤ 12 → v ≡ get_or vs 0 v → Some w ≡ text_length (view v) → 1 ≤ w → w ≤ 16 → bit_rows 12 16 texts ≡ each_gives (row_at w) (map view vs)
-value_rows [] v texts w all some few first long wide narrow = absurd (omega arith)
-value_rows (u ∷ vs) v texts w all some few first long wide narrow =
+pub value_rows : (most_rows most_columns : ℕ) (vs : List Value) (v : Value) (texts : List (List ℕ)) (w : ℕ) → each_gives as_text (map view vs) ≡ Some texts → 1 ≤ length vs → length vs ≤ most_rows → v ≡ get_or vs 0 v → Some w ≡ text_length (view v) → 1 ≤ w → w ≤ most_columns → bit_rows most_rows most_columns texts ≡ each_gives (row_at w) (map view vs)
+value_rows most_rows most_columns [] v texts w all some few first long wide narrow = absurd (omega arith)
+value_rows most_rows most_columns (u ∷ vs) v texts w all some few first long wide narrow =
     let count = length-map (u ∷ vs) view in
     let at_first = subst (λ (x : Value). Some w ≡ text_length (view x)) first long in
-    some_rows (map view (u ∷ vs)) texts all w (omega arith) (omega arith) wide narrow (first_length (view u) (map view vs) texts w all at_first)
+    some_rows most_rows most_columns (map view (u ∷ vs)) texts all w (omega arith) (omega arith) wide narrow (first_length (view u) (map view vs) texts w all at_first)
 
 -- the code of rows that are numbers
 pub numbers_are_rows : (w : ℕ) (ns : List ℕ) → 1 ≤ length ns → code_of (map (bits_of w) ns) ≡ numbers_code w ns

@@ -2,3 +2,4 @@ pub mod Faults
 pub mod Types
 pub mod Keys
 pub mod Matrix
+pub mod Library

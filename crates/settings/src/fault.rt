@@ -4,7 +4,7 @@ ghost use Rattle.guard_spec.specs.SettingsFile.{missing, bad_value, unknown_key}
 ghost use Rattle.settings.specs.Faults.{fault_of, IsFault};
 
 use crate::Text;
-use std::alloc::{AllocError, Global};
+use std::alloc::{AllocError, AllocFailed, Global};
 
 /// The first fault of a settings file, in the order of the keys. A key is its path in the document.
 #[derive(Debug, Drop)]
@@ -29,6 +29,17 @@ impl From<AllocError> for SetFault {
     ghost from_gives = { λ error fault. fault ≡ NoMemory };
 
     fn from(_error: AllocError) -> SetFault {
+        SetFault::NoMemory
+    }
+}
+
+impl<T: Drop> From<AllocFailed<T>> for SetFault {
+    ghost use Rattle.std.specs.Prelude.{◌≡◌};
+    ghost use Rattle.settings.specs.declared.fault.SetFault.TheVariants.{NoMemory};
+
+    ghost from_gives = { λ error fault. fault ≡ NoMemory };
+
+    fn from(_error: AllocFailed<T>) -> SetFault {
         SetFault::NoMemory
     }
 }

@@ -1,12 +1,16 @@
 //! The settings of a guard, as a TOML document gives them, and whether their code is strong enough.
 #![tactic(auto)]
 
+mod bits;
+mod entries;
 mod fault;
 mod keys;
+mod linears;
 mod matrix;
 mod reader;
 mod scalars;
 mod strong;
+mod tables;
 mod types;
 mod words;
 

@@ -1,13 +1,14 @@
 // The check matrix.
 ghost use Rattle.std.specs.Prelude.{◌≡◌, ◌≤◌, ◌<◌, ◌^◌, ℕ, List, Some, Ok, length, map, option_map, is_some, All, IfSome, IfOk, IfErr};
 ghost use Rattle.guard_spec.specs.Codes.{bits_of};
-ghost use Rattle.netlist_spec.specs.Digits.{bit_of_char, bits_of_text, each_gives};
+ghost use Rattle.netlist_spec.specs.Digits.{each_gives};
 ghost use Rattle.guard_spec.specs.SettingsFile.{as_text, bit_rows, code_of};
 ghost use Rattle.toml.specs.View.{view, table_view};
 ghost use Rattle.settings.specs.Faults.{fault_of, IsFault};
-ghost use Rattle.settings.specs.Matrix.{row_at, text_length, check_of};
+ghost use Rattle.settings.specs.Matrix.{row_at, check_of};
 
 use crate::SetFault;
+use crate::bits::{row, text_len};
 use crate::keys::{needed, refused_value};
 use arrayvec::ArrayVec;
 use block_code::Code;
@@ -17,50 +18,6 @@ use toml::{Table, Value};
 const MOST_ROWS: usize = 12;
 
 const MOST_COLUMNS: usize = 16;
-
-fn bit(c: u8) -> Option<bool>
-    ensures { result ≡ bit_of_char c }
-{
-    match c {
-        b'0' => Some(false),
-        b'1' => Some(true),
-        _ => None,
-    }
-}
-
-// The number whose bit j is character j of a text of `0` and `1`.
-fn row_number(text: &[u8]) -> Option<u32>
-    requires { length text.now ≤ 16 }
-    ensures bits { option_map (bits_of (length text.now)) result ≡ bits_of_text text.now }
-    ensures within { IfSome result (λ row. row < 2 ^ length text.now) }
-{
-    let mut row = 0;
-    for (j, c) in text.iter().enumerate() {
-        let bit = bit(*c)?;
-        if bit {
-            row = 1 << j | row;
-        }
-    }
-    Some(row)
-}
-
-// The row of a text of so many characters.
-fn row(value: &Value, width: usize) -> Option<u32>
-    requires { width ≤ 16 }
-    ensures bits { option_map (bits_of width) result ≡ row_at width (view value.now) }
-    ensures within { IfSome result (λ row. row < 2 ^ width) }
-{
-    match value.as_str() {
-        Some(text) => {
-            if text.len() == width {
-                row_number(text.as_bytes())
-            } else {
-                None
-            }
-        }
-        None => None,
-    }
-}
 
 // The rows, if all have so many columns.
 fn rows(values: &[Value], width: usize) -> Option<ArrayVec<u32, MOST_ROWS>>
@@ -73,19 +30,10 @@ fn rows(values: &[Value], width: usize) -> Option<ArrayVec<u32, MOST_ROWS>>
 {
     let mut rows = ArrayVec::new();
     for value in values {
-        rows.push(row(value, width)?);
+        let row = row(value, width)?;
+        rows.push(row as u32);
     }
     Some(rows)
-}
-
-// The number of characters of a text.
-fn text_len(value: &Value) -> Option<usize>
-    ensures { result ≡ text_length (view value.now) }
-{
-    match value.as_str() {
-        Some(text) => Some(text.len()),
-        None => None,
-    }
 }
 
 // The check matrix that these texts are.

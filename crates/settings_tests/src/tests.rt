@@ -24,7 +24,7 @@ fn key(fault: &SetFault) -> &[u8] {
 // Each file has the fault that is named. Where there are two, the earlier key of the table wins.
 #[test]
 fn first_faults(rt: HostRuntime) -> Result<(), Fail> {
-    let table: [(&[u8], &str, &str); 31] = [
+    let table: [(&[u8], &str, &str); 29] = [
         (b"mode =", "S1", ""),
         (
             b"mode = \"detect\"\nbound = 1\ncheck = [\"1\"]\n# \xff",
@@ -134,16 +134,6 @@ fn first_faults(rt: HostRuntime) -> Result<(), Fail> {
             "S4",
             "Speed",
         ),
-        (
-            b"mode = \"detect\"\nbound = 1\ncheck = [\"1\"]\n[sbox.s]\n[linear.l]",
-            "S4",
-            "linear",
-        ),
-        (
-            b"mode = \"detect\"\nbound = 1\ncheck = [\"1\"]\n[sbox]",
-            "S4",
-            "sbox",
-        ),
     ];
     for (bytes, name, path) in table {
         match read(rt.alloc(), bytes) {
@@ -153,6 +143,122 @@ fn first_faults(rt: HostRuntime) -> Result<(), Fail> {
                 assert!(rt; key(&fault) == path.as_bytes(), "the key of a fault");
             }
         }
+    }
+    Ok(())
+}
+
+// A settings file whose keys are in order as far as its library, and which goes on so.
+fn with_library(rt: &HostRuntime, library: &str) -> Result<Vec<u8>, Fail> {
+    let mut bytes = Vec::new(rt.alloc());
+    bytes.extend_from_slice(b"mode = \"detect\"\nbound = 1\ncheck = [\"1\"]\n")?;
+    bytes.extend_from_slice(library.as_bytes())?;
+    Ok(bytes)
+}
+
+// Each library has the fault that is named.
+#[test]
+fn faults_of_libraries(rt: HostRuntime) -> Result<(), Fail> {
+    let table = [
+        ("sbox = 3", "S3", "sbox"),
+        ("linear = []", "S3", "linear"),
+        ("[sbox]\ns = 1", "S3", "sbox.s"),
+        ("[linear]\nl = [\"1\"]", "S3", "linear.l"),
+        ("[sbox.\"\"]", "S3", "sbox."),
+        ("[sbox.s]\noutputs = 1\nvalues = [0, 1]", "S2", "sbox.s.inputs"),
+        ("[sbox.s]\ninputs = 0\noutputs = 9", "S3", "sbox.s.inputs"),
+        ("[sbox.s]\ninputs = 9", "S3", "sbox.s.inputs"),
+        ("[sbox.s]\ninputs = 1\nvalues = 0", "S2", "sbox.s.outputs"),
+        ("[sbox.s]\ninputs = 1\noutputs = \"1\"\nvalues = []", "S3", "sbox.s.outputs"),
+        ("[sbox.s]\ninputs = 1\noutputs = 1\nspeed = 1", "S2", "sbox.s.values"),
+        ("[sbox.s]\ninputs = 1\noutputs = 2\nvalues = [3, 4]", "S3", "sbox.s.values"),
+        ("[sbox.s]\ninputs = 1\noutputs = 2\nvalues = [3, -1]", "S3", "sbox.s.values"),
+        ("[sbox.s]\ninputs = 1\noutputs = 2\nvalues = [3, 1.0]", "S3", "sbox.s.values"),
+        ("[sbox.s]\ninputs = 1\noutputs = 2\nvalues = [3, \"1\"]", "S3", "sbox.s.values"),
+        (
+            "[sbox.s]\ninputs = 4\noutputs = 1\nvalues = [0, 0, 0, 0, 0, 0, 0, 0, 0, 0, 0, 0, 0, 0, 0]",
+            "S3",
+            "sbox.s.values",
+        ),
+        (
+            "[sbox.s]\ninputs = 1\noutputs = 1\nvalues = [0, 1]\nspeed = 1\narea = 1",
+            "S4",
+            "sbox.s.area",
+        ),
+        (
+            "[sbox.b]\ninputs = 9\n[sbox.a]\ninputs = 1\noutputs = 1\nvalues = [2, 2]",
+            "S3",
+            "sbox.a.values",
+        ),
+        ("[linear.l]\nspeed = 1", "S2", "linear.l.rows"),
+        ("[linear.l]\nrows = []", "S3", "linear.l.rows"),
+        ("[linear.l]\nrows = \"1\"", "S3", "linear.l.rows"),
+        ("[linear.l]\nrows = [\"\"]", "S3", "linear.l.rows"),
+        ("[linear.l]\nrows = [\"11\", \"1\"]", "S3", "linear.l.rows"),
+        ("[linear.l]\nrows = [\"12\"]", "S3", "linear.l.rows"),
+        ("[linear.l]\nrows = [1]", "S3", "linear.l.rows"),
+        ("[linear.l]\nrows = [\"1\"]\nwidth = 1", "S4", "linear.l.width"),
+        (
+            "[linear.s]\nrows = [\"1\"]\n[sbox.s]\ninputs = 1\noutputs = 1\nvalues = [0, 1]",
+            "S3",
+            "linear.s",
+        ),
+        ("speed = 1\n[linear]\nl = 1", "S3", "linear.l"),
+        ("speed = 1\n[sbox]\n[linear]", "S4", "speed"),
+    ];
+    for (library, name, path) in table {
+        let bytes = with_library(&rt, library)?;
+        match read(rt.alloc(), &bytes) {
+            Ok(_) => assert!(rt; false, "accepted"),
+            Err(fault) => {
+                assert!(rt; code_name(&fault) == name, "the code of a fault");
+                assert!(rt; key(&fault) == path.as_bytes(), "the key of a fault");
+            }
+        }
+    }
+    Ok(())
+}
+
+// A settings file with a layer of two rows and with the table of PRESENT.
+#[test]
+fn a_library_is_read(rt: HostRuntime) -> Result<(), Fail> {
+    let library = "[sbox.present]\ninputs = 4\noutputs = 4\n\
+        values = [12, 5, 6, 11, 9, 0, 10, 13, 3, 14, 15, 8, 4, 7, 1, 2]\n\
+        [sbox.inverse]\ninputs = 1\noutputs = 1\nvalues = [1, 0]\n\
+        [linear.mix]\nrows = [\"110\", \"011\"]\n";
+    let bytes = with_library(&rt, library)?;
+    match read(rt.alloc(), &bytes) {
+        Ok(settings) => {
+            assert_eq!(rt; (settings.tables.len(), settings.linears.len()), (2, 1));
+            assert!(rt; settings.tables[0].name.bytes() == b"inverse".as_slice());
+            assert!(rt; settings.tables[1].name.bytes() == b"present".as_slice());
+            let table = &settings.tables[1].table;
+            assert_eq!(rt; (table.ins, table.outs), (4, 4));
+            assert_eq!(rt; table.rows.len(), 16);
+            assert_eq!(rt; (table.rows[0], table.rows[1], table.rows[15]), (12, 5, 2));
+            let mix = &settings.linears[0];
+            assert!(rt; mix.name.bytes() == b"mix".as_slice());
+            assert_eq!(rt; mix.layer.width, 3);
+            assert_eq!(rt; mix.layer.rows.as_slice(), [0b011, 0b110].as_slice());
+        }
+        Err(_) => assert!(rt; false, "refused"),
+    }
+    Ok(())
+}
+
+// 10,000 layers, which are read and kept in byte order, `x10` before `x2`.
+#[test]
+fn many_entries(rt: HostRuntime) -> Result<(), Fail> {
+    let mut bytes = with_library(&rt, "[linear]\n")?;
+    for i in 0..10_000u32 {
+        let entry = format!(in rt.alloc(); "x{i}.rows = [\"1\"]\n")?;
+        bytes.extend_from_slice(entry.as_bytes())?;
+    }
+    match read(rt.alloc(), &bytes) {
+        Ok(settings) => {
+            assert_eq!(rt; settings.linears.len(), 10_000);
+            assert!(rt; settings.linears[2].name.bytes() == b"x10".as_slice());
+        }
+        Err(_) => assert!(rt; false, "refused"),
     }
     Ok(())
 }
@@ -176,6 +282,18 @@ fn names_have_at_most_255_bytes(rt: HostRuntime) -> Result<(), Fail> {
     match read(rt.alloc(), &long) {
         Ok(_) => assert!(rt; false, "accepted"),
         Err(fault) => assert!(rt; code_name(&fault) == "S3"),
+    }
+    let mut entry = with_library(&rt, "[sbox.")?;
+    for _ in 0..256u16 {
+        entry.push(b'a')?;
+    }
+    entry.extend_from_slice(b"]\ninputs = 9\n")?;
+    match read(rt.alloc(), &entry) {
+        Ok(_) => assert!(rt; false, "accepted"),
+        Err(fault) => {
+            assert!(rt; code_name(&fault) == "S3");
+            assert_eq!(rt; key(&fault).len(), 261);
+        }
     }
     Ok(())
 }

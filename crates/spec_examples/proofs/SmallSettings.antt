@@ -1,5 +1,6 @@
 -- What holds of all settings holds of small ones.
 use Rattle.std.proofs.Common.{refl, lit<, lit≤}
+use Rattle.std.specs.List.Sorted.{IsStrictlySortedBy}
 use Rattle.netlist_spec.specs.Covers.{IsLibrary}
 use Rattle.guard_spec.specs.SettingsFile.{IsSettings}
 use Rattle.spec_examples.specs.Examples.{cipher_library, settings_read}
@@ -22,6 +23,7 @@ cipher_is_library =
     }
 
 pub settings_are_settings : IsSettings settings_read
+unfolding IsStrictlySortedBy
 settings_are_settings =
     record {
       bound = (lit≤ tt, lit≤ tt);
@@ -34,4 +36,6 @@ settings_are_settings =
         tables = (record { ins = (lit≤ tt, lit≤ tt); outs = (lit≤ tt, lit≤ tt); count = refl; each = (lit< tt, (lit< tt, tt)) }, tt);
         linears = (record { rows = (lit≤ tt, lit≤ tt); width = (lit≤ tt, lit≤ tt); each = (lit< tt, (lit< tt, tt)) }, tt);
       };
+      table_order = (tt, tt);
+      linear_order = (tt, tt);
     }

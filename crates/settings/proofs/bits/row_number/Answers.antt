@@ -3,8 +3,8 @@ use Rattle.netlist_spec.specs.Digits.{bit_of_char}
 use Rattle.netlist_spec.specs.SourceRun.{Bits}
 use Rattle.settings.proofs.Gives.{gives_none, gives_more}
 use Rattle.settings.proofs.Rows.{zero_bits, zero_below, one_bits, one_below}
-use Rattle.settings.proofs.matrix.row_number.Goals as goal
-use Rattle.settings.proofs.matrix.row_number.Goals.{then-bit, else-bit}
+use Rattle.settings.proofs.bits.row_number.Goals as goal
+use Rattle.settings.proofs.bits.row_number.Goals.{then-bit, else-bit}
 
 pub returns-in_err-bit-clause-bits : goal.returns-in_err-bit-clause-bits
 returns-in_err-bit-clause-bits c = rw c.from_residual.ensures (sym (gives_none bit_of_char c.args.text.now c.loop-j.j 0 (omega arith) (sym c.in_err-bit.ensures)))

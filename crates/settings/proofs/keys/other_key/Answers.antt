@@ -4,7 +4,7 @@ use Rattle.std.specs.Map.Iter.{TakesFirst, deref}
 use Rattle.std.proofs.lemmas.Iterator.Consumers.{YieldsList-from_shown}
 use Rattle.std.proofs.lemmas.Iterator.Search.{find_from_yields_List}
 use Rattle.netlist_spec.specs.Netlist.{stands_in}
-use Rattle.guard_spec.specs.SettingsFile.{keys_without_library}
+use Rattle.settings.specs.Keys.{keys_in}
 use Rattle.settings.proofs.OtherKeys.{found_key}
 use Rattle.settings.proofs.keys.other_key.Goals as goal
 
@@ -15,5 +15,5 @@ bytes_of (Some key) = refl
 pub returns : goal.returns
 returns c =
     let road = YieldsList-from_shown (TakesFirst (deref {X = String Global})) (deref {X = String Global}) (λ (s : List (String Global)). s) (λ s t h. ap length h.0) (λ s x t h. h) c.keys.result in
-    let found = find_from_yields_List (λ (k : String Global). not (stands_in (string_bytes k) keys_without_library)) _ _ c.find.result c.find.ensures.ran road (λ x b q k. search (rules, tests)) in
-    bytes_of c.find.result ∙ (ap (option_map string_bytes) (found ∙ ap (find (λ (k : String Global). not (stands_in (string_bytes k) keys_without_library))) c.keys.ensures.rest) ∙ found_key (λ (k : List ℕ). not (stands_in k keys_without_library)) c.args.doc.now.entries)
+    let found = find_from_yields_List (λ (k : String Global). not (stands_in (string_bytes k) (keys_in c.args.keys))) _ _ c.find.result c.find.ensures.ran road (λ x b q k. search (rules, tests)) in
+    bytes_of c.find.result ∙ (ap (option_map string_bytes) (found ∙ ap (find (λ (k : String Global). not (stands_in (string_bytes k) (keys_in c.args.keys)))) c.keys.ensures.rest) ∙ found_key (λ (k : List ℕ). not (stands_in k (keys_in c.args.keys))) c.args.table.now.entries)

@@ -1,4 +1,4 @@
-use Rattle.std.proofs.Common.{◌≡◌, false, [], ◌∷◌, List, Some, ◌<◌, ◌≤◌, length, map, option_map, sym, ◌∙◌, ap, inl, inr, arith}
+use Rattle.std.proofs.Common.{◌≡◌, false, [], ◌∷◌, List, Some, ◌<◌, ◌≤◌, length, map, option_map, sym, ◌∙◌, ap, inl, inr, arith, lit≤}
 use Rattle.std.proofs.lemmas.Bool.Decides.{nat_tests}
 use Rattle.std.specs.Prelude.{◌==◌}
 use Rattle.std.proofs.lemmas.List.{length-map}
@@ -21,19 +21,19 @@ returns-then-is_empty c texts all =
     elim c.then-is_empty.either [
       | inl empty ↦
           let none : length ds < 1 = grind (arith, nat_tests, c.is_empty.ensures, empty, count) in
-          ap (option_map code_of) (sym (no_rows ds texts all none))
+          ap (option_map code_of) (sym (no_rows 12 16 ds texts all none))
       | inr many ↦
           let past : 12 < length ds = omega (arith, many.1, count) in
-          ap (option_map code_of) (sym (many_rows ds texts all past))
+          ap (option_map code_of) (sym (many_rows 12 16 ds texts all (lit≤ tt) past))
     ]
 
 pub returns-in_err-rows : goal.returns-in_err-rows
 returns-in_err-rows c texts all =
-    rw c.from_residual-in_err-rows.ensures (ap (option_map code_of) (c.in_err-rows.ensures.bits ∙ sym (value_rows c.args.values.now c.index-values-0.result texts c.in_ok-width.width all (some_values c.args.values.now c.if-is_empty.ensures) (omega arith) c.index-values-0.is c.in_ok-width.ensures (omega arith) (omega arith))))
+    rw c.from_residual-in_err-rows.ensures (ap (option_map code_of) (c.in_err-rows.ensures.bits ∙ sym (value_rows 12 16 c.args.values.now c.index-values-0.result texts c.in_ok-width.width all (some_values c.args.values.now c.if-is_empty.ensures) (omega arith) c.index-values-0.is c.in_ok-width.ensures (omega arith) (omega arith))))
 
 pub returns-in-Ok : goal.returns-in-Ok
 returns-in-Ok c texts all =
     let ns = c.in_ok-rows.rows.items in
-    let given = c.in_ok-rows.ensures.bits ∙ sym (value_rows c.args.values.now c.index-values-0.result texts c.in_ok-width.width all (some_values c.args.values.now c.if-is_empty.ensures) (omega arith) c.index-values-0.is c.in_ok-width.ensures (omega arith) (omega arith)) in
+    let given = c.in_ok-rows.ensures.bits ∙ sym (value_rows 12 16 c.args.values.now c.index-values-0.result texts c.in_ok-width.width all (some_values c.args.values.now c.if-is_empty.ensures) (omega arith) c.index-values-0.is c.in_ok-width.ensures (omega arith) (omega arith)) in
     let code = c.in-Ok.ensures.made ∙ (ap (numbers_code c.in_ok-width.width) c.deref.ensures.0 ∙ sym (numbers_are_rows c.in_ok-width.width ns (omega (arith, c.in_ok-rows.ensures.count, some_values c.args.values.now c.if-is_empty.ensures)))) in
     ap (λ (made : Code). Some made) code ∙ ap (option_map code_of) given

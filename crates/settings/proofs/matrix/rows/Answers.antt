@@ -14,11 +14,11 @@ returns-in_err-row-clause-bits c =
 pub loop-value-preserved : goal.loop-value-preserved
 loop-value-preserved c =
     let (read, count, within) = c.loop-value.invariant in
-    let here : row_at c.args.width (view c.value-item.result) ≡ Some (bits_of c.args.width c.in_ok-row.field-0) = sym c.in_ok-row.ensures.bits in
+    let here : row_at c.args.width (view c.value-item.result) ≡ Some (bits_of c.args.width c.in_ok-row.row) = sym c.in_ok-row.ensures.bits in
     rw c.push.ensures.items (
-      rw map-append (values_more (row_at c.args.width) c.args.values.now c.loop-value.value-index c.value-item.result (map (bits_of c.args.width) c.loop-value.rows.items) (bits_of c.args.width c.in_ok-row.field-0) (omega arith) c.value-item.is read here),
-      length_push c.loop-value.rows.items c.in_ok-row.field-0 ∙ ap (λ (n : ℕ). n + 1) count,
-      All-push (λ (row : ℕ). row < 2 ^ c.args.width) c.loop-value.rows.items c.in_ok-row.field-0 within c.in_ok-row.ensures.within,
+      rw map-append (values_more (row_at c.args.width) c.args.values.now c.loop-value.value-index c.value-item.result (map (bits_of c.args.width) c.loop-value.rows.items) (bits_of c.args.width c.in_ok-row.row) (omega arith) c.value-item.is read here),
+      length_push c.loop-value.rows.items c.in_ok-row.row ∙ ap (λ (n : ℕ). n + 1) count,
+      All-push (λ (row : ℕ). row < 2 ^ c.args.width) c.loop-value.rows.items c.in_ok-row.row within c.in_ok-row.ensures.within,
     )
 
 pub returns-clause-bits : goal.returns-clause-bits
