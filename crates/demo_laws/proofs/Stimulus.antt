@@ -8,7 +8,7 @@ use Rattle.netlist_spec.specs.Lines.{is_blank, is_empty, words, without_comment,
 use Rattle.netlist_spec.specs.Statements.{bit_char}
 use Rattle.netlist_spec.specs.Digits.{bits_of_text}
 use Rattle.netlist_spec.specs.SourceRun.{Bits, Stream}
-use Rattle.program_spec.specs.Stimulus.{with_row, stimulus_row, stimulus_from, stimulus_of}
+use Rattle.stimulus_spec.specs.Stimulus.{with_row, stimulus_row, stimulus_from, stimulus_of}
 use Rattle.program_spec.specs.Demo.{loading_cycle, idle_cycle, demo_stream}
 use Rattle.demo_laws.specs.DemoFiles.{cycle_text, demo_stimulus}
 use Rattle.demo_laws.proofs.Ranges.{length_mapped}

@@ -1,7 +1,7 @@
 -- What holds of the demo design of each size from 1 to 64.
 use Rattle.std.specs.Prelude.{◌≡◌, ℕ, ◌+◌, ◌*◌, ◌≤◌, List, length, Some, None, Ok}
 use Rattle.netlist_spec.specs.Models.{latches_of, data_inputs, output_nets}
-use Rattle.program_spec.specs.Stimulus.{stimulus_of}
+use Rattle.stimulus_spec.specs.Stimulus.{stimulus_of}
 use Rattle.netlist_spec.specs.Size.{whole_cost}
 use Rattle.netlist_spec.specs.Sound.{IsSound}
 use Rattle.guard_spec.specs.Plain.{IsPlain}

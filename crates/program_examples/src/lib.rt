@@ -12,7 +12,7 @@ ghost use Rattle.program_spec.specs.Verdict.{IsAccepted};
 ghost use Rattle.guard_spec.specs.Codes.{detect, hamming_code};
 ghost use Rattle.program_spec.specs.Demo.{demo_settings};
 ghost use Rattle.netlist_spec.specs.Lines.{plain_lines};
-ghost use Rattle.program_spec.specs.Stimulus.{bad_script, more_than_sixteen, no_such_cell, script_of, stimulus_of};
+ghost use Rattle.stimulus_spec.specs.Stimulus.{bad_script, more_than_sixteen, no_such_cell, script_of, stimulus_of};
 ghost use Rattle.program_spec.specs.Printed.{IsFindingText, IsIndependentText, IsReport, IsRunText, report_text, run_text};
 ghost use Rattle.program_spec.specs.ErrorLines.{answer_line, done, error_line, found, no_memory, read_fault as failed_load, refusal_text, refused, usage, write_fault};
 ghost use Rattle.program_spec.specs.Refusals.{too_small, unreadable, unsound};

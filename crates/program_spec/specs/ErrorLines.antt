@@ -6,7 +6,7 @@ use Rattle.guard_spec.specs.SettingsFile.{SettingsFault, not_toml, missing, bad_
 use Rattle.netlist_spec.specs.SoundFaults.{SoundFault, twice, no_such_model, bad_port, recursion, latch_inside, too_deep, undriven, bad_clocking, loop, reserved, too_large}
 use Rattle.guard_spec.specs.Words.{LayoutFault, no_such_net, in_two_words, not_in_a_word}
 use Rattle.netlist_spec.specs.Ordered.{OrderFault, unordered, has_subckt}
-use Rattle.program_spec.specs.Stimulus.{ScriptFault, bad_script, no_such_cell, more_than_sixteen}
+use Rattle.stimulus_spec.specs.Stimulus.{ScriptFault, bad_script, no_such_cell, more_than_sixteen}
 use Rattle.program_spec.specs.Refusals.{Refusal, file_too_long, unreadable, bad_settings, too_small, unsound, bad_layout, guard_too_large, out_of_order, bad_stimulus, bad_script_line, not_yet}
 use Rattle.netlist_spec.specs.Escapes.{escaped, quantity_word}
 

@@ -8,7 +8,7 @@ use Rattle.netlist_spec.specs.Runs.{Fault}
 use Rattle.netlist_spec.specs.Ordered.{cell_nets}
 use Rattle.guard_spec.specs.Words.{Settings}
 use Rattle.guard_spec.specs.SettingsFile.{settings_of_bytes}
-use Rattle.program_spec.specs.Stimulus.{stimulus_of}
+use Rattle.stimulus_spec.specs.Stimulus.{stimulus_of}
 use Rattle.guard_spec.specs.Containment.{IsGuard}
 use Rattle.guard_spec.specs.Tally.{Tally, IsTally}
 use Rattle.program_spec.specs.Printed.{tally_text, demo_text}

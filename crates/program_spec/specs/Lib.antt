@@ -1,5 +1,4 @@
 pub mod Commands
-pub mod Stimulus
 pub mod Refusals
 pub mod Printed
 pub mod Walk

@@ -5,7 +5,7 @@ use Rattle.guard_spec.specs.SettingsFile.{SettingsFault}
 use Rattle.netlist_spec.specs.SoundFaults.{SoundFault}
 use Rattle.guard_spec.specs.Words.{LayoutFault}
 use Rattle.netlist_spec.specs.Ordered.{OrderFault}
-use Rattle.program_spec.specs.Stimulus.{ScriptFault}
+use Rattle.stimulus_spec.specs.Stimulus.{ScriptFault}
 
 pub data Refusal : Type 0 where
   file_too_long : (name : List ℕ) → Refusal

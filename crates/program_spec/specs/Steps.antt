@@ -15,7 +15,7 @@ use Rattle.guard_spec.specs.Codes.{needed_distance, IsDistance}
 use Rattle.guard_spec.specs.Words.{Settings, Layout, IsLayout, layout_fault}
 use Rattle.guard_spec.specs.Plain.{IsPlain}
 use Rattle.guard_spec.specs.SettingsFile.{settings_of_bytes, settings_without_library_of}
-use Rattle.program_spec.specs.Stimulus.{stimulus_of, script_of}
+use Rattle.stimulus_spec.specs.Stimulus.{stimulus_of, script_of}
 use Rattle.program_spec.specs.Refusals.{Refusal, not_yet, unreadable, bad_settings, too_small, unsound, bad_layout, guard_too_large, out_of_order, bad_stimulus, bad_script_line}
 use Rattle.program_spec.specs.Walk.{Test}
 

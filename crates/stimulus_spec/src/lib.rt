@@ -1,0 +1,2 @@
+//! Definitions of stimulus and script files.
+#![tactic(auto)]
