@@ -1,5 +1,5 @@
-use distance::{distance, patterns};
 use block_code::{Code, CodeFault, Word};
+use distance::{distance, patterns};
 use std::test::Fail;
 
 // Check matrices of known distance, column 0 of a row in the lowest bit, and the least data of that weight.

@@ -6,5 +6,6 @@ mod cone;
 mod copy;
 mod laws;
 mod sum;
+
 pub use copy::{copy_all, copy_xor};
 pub use laws::{cones_have_one_size, ranges_answer_alone, ranges_stay};

@@ -4,7 +4,8 @@
 mod gate;
 mod laws;
 mod machine;
-mod net;mod words;
+mod net;
+mod words;
 
 pub use gate::{Gate, NetId, Op};
 pub use laws::{

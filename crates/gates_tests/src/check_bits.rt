@@ -5,10 +5,10 @@ ghost use Rattle.guard_spec.specs.Codes.{data_places};
 ghost use Rattle.gate_net.specs.Gate.{net_number};
 ghost use Rattle.gate_net.specs.GateNet.{net_count};
 
-use predictor::check_bit;
 use block_code::Code;
 use cone_split::cones_have_one_size;
 use gate_net::{Gate, GateNet, NetId, Op};
+use predictor::check_bit;
 use std::alloc::{AllocError, Global};
 use std::test::Fail;
 

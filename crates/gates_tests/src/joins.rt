@@ -1,8 +1,8 @@
 // Nets that are joined, read off the gates.
 ghost use Rattle.std.specs.Prelude.{◌≡◌};
 
-use reduction::{bit, join, joined};
 use gate_net::{Gate, GateNet, NetId, Op};
+use reduction::{bit, join, joined};
 use std::test::Fail;
 
 #[test]

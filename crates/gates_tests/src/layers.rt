@@ -4,8 +4,8 @@ ghost use Rattle.std.specs.List.{AllByRecursion};
 ghost use Rattle.gate_net.specs.Gate.{net_number};
 ghost use Rattle.gate_net.specs.GateNet.{net_count};
 
-use linear_layer::{Linear, lower};
 use gate_net::{GateNet, NetId};
+use linear_layer::{Linear, lower};
 use std::alloc::{AllocError, Global};
 use std::test::Fail;
 

@@ -3,5 +3,6 @@
 
 mod bit;
 mod laws;
+
 pub use bit::check_bit;
 pub use laws::check_bits_cost_no_more;
