@@ -73,8 +73,8 @@ module _ (doc : Members) (mode : Mode) (bound : ℕ) (rows : List Bits) (k j : �
   grouped =
       regroup (optional (codes "sbox") (codes "sbox") as_members doc) (λ sboxes. all_of sbox_entry (entries_of sboxes)) layers_then
       ∙ (then_same (tables_of doc) layers_then (λ tables. (linears_of (map (λ t. t.name) tables) doc >>= (λ linears. Ok (record { tables = tables; linears = linears }))) >>= with_library) (λ tables.
-          regroup (optional (codes "linear") (codes "linear") as_members doc) (λ layers. all_of (linear_entry (map (λ t. t.name) tables)) (entries_of layers)) (λ linears. with_library (record { tables = tables; linears = linears }))
-          ∙ regroup (linears_of (map (λ t. t.name) tables) doc) (λ linears. Ok (record { tables = tables; linears = linears })) with_library)
+      regroup (optional (codes "linear") (codes "linear") as_members doc) (λ layers. all_of (linear_entry (map (λ t. t.name) tables)) (entries_of layers)) (λ linears. with_library (record { tables = tables; linears = linears }))
+      ∙ regroup (linears_of (map (λ t. t.name) tables) doc) (λ linears. Ok (record { tables = tables; linears = linears })) with_library)
       ∙ regroup (tables_of doc) (λ tables. linears_of (map (λ t. t.name) tables) doc >>= (λ linears. Ok (record { tables = tables; linears = linears }))) with_library)
 
   library_comes : settings_of doc ≡ (library_of doc >>= with_library)

@@ -1,5 +1,5 @@
 -- The entries of a table, one after another, and their names.
-use Rattle.std.proofs.Common.{◌≡◌, ℕ, List, [], ◌∷◌, ◌++◌, map, Option, None, Some, Result, Ok, Err, Ordering, Less, String, Global, string_bytes, nat_cmp, refl, sym, subst, ap, ◌∙◌, append_assoc}
+use Rattle.std.proofs.Common.{◌≡◌, ℕ, List, [], ◌∷◌, ◌++◌, map, Option, None, Some, Result, Ok, Err, Less, String, Global, string_bytes, nat_cmp, refl, sym, subst, ap, ◌∙◌, append_assoc}
 use Rattle.std.proofs.lemmas.List.{append-nil}
 use Rattle.std.specs.Cmp.Lexicographic.{slice_cmp}
 use Rattle.std.specs.List.{AllByRecursion}
@@ -94,7 +94,7 @@ pub ascending_names : {B T : Type 0} (f : List ℕ × Data → Result B Settings
     → (es : List (String Global × Value)) (ts : List T) → all_of f (listed es) ≡ Ok (map seen ts) → IsStrictlySortedBy string_cmp (keys_of es) → IsStrictlySortedBy (slice_cmp nat_cmp) (map (λ t. name (seen t)) ts)
 ascending_names f seen name named es ts all ordered =
     let names : map (λ t. name (seen t)) ts ≡ map string_bytes (keys_of es) =
-        sym (map_twice seen name ts) ∙ (names_alike f (λ (e : List ℕ × Data). e.0) name named (listed es) (map seen ts) all ∙ listed_names es) in
+    sym (map_twice seen name ts) ∙ (names_alike f (λ (e : List ℕ × Data). e.0) name named (listed es) (map seen ts) all ∙ listed_names es) in
     subst (IsStrictlySortedBy (slice_cmp nat_cmp)) (sym names) (ascending_bytes (keys_of es) ordered)
 
 -- what holds of all, and of one more

@@ -1,5 +1,5 @@
 -- What holds of the entries of the library that are read.
-use Rattle.std.proofs.Common.{◌≡◌, ℕ, ◌+◌, ◌-◌, ◌^◌, ◌<◌, ◌≤◌, Bool, true, false, ℤ, pos, List, [], ◌∷◌, ◌++◌, length, map, Option, None, Some, Result, Ok, Err, refl, sym, ap, ◌∙◌, subst, arith}
+use Rattle.std.proofs.Common.{◌≡◌, ℕ, ◌-◌, ◌^◌, ◌<◌, ◌≤◌, Bool, true, false, pos, List, [], ◌∷◌, length, Option, None, Some, Result, Ok, Err, refl, sym, ap, ◌∙◌, arith}
 use Rattle.std.specs.Prelude.{negsuc, ◌&&◌, ◌==◌, nat_le, if◌then◌else◌, ok_or, codes}
 use Rattle.std.specs.Bool.{then_some}
 use Rattle.std.specs.List.{AllByRecursion}
@@ -7,8 +7,8 @@ use Rattle.std.proofs.lemmas.Bool.Decides.{nat_tests}
 use Rattle.std.proofs.lemmas.Nat.{pow_pos}
 use Rattle.netlist_spec.specs.Digits.{each_gives}
 use Rattle.netlist_spec.specs.Netlist.{Name, stands_in}
-use Rattle.netlist_spec.specs.Covers.{Table, NamedTable, NamedLinear, IsTable}
-use Rattle.guard_spec.specs.SettingsFile.{SettingsFault, missing, bad_value, as_items, then_gives, whole_between, values_of, layer_of, needed, no_other_key, dotted, entry_members, sbox_entry, linear_entry, ◌>>=◌}
+use Rattle.netlist_spec.specs.Covers.{NamedTable, NamedLinear, IsTable}
+use Rattle.guard_spec.specs.SettingsFile.{SettingsFault, missing, bad_value, as_items, then_gives, whole_between, values_of, layer_of, needed, no_other_key, dotted, entry_members, sbox_entry, linear_entry}
 use Rattle.toml.specs.Data.{Data, string, integer, float, boolean, datetime, array, table, Members, get_member}
 use Rattle.settings.proofs.Gives.{gives_each, gives_length}
 use Rattle.settings.proofs.Steps.{then_parts}
@@ -72,9 +72,10 @@ rows_of_items ins outs (Some ds) rows e = at (length ds == 2 ^ ins) refl
     at : (b : Bool) → (length ds == 2 ^ ins) ≡ b → (length rows ≡ 2 ^ ins) × AllByRecursion (λ n. n < 2 ^ outs) rows
     at true p =
         let all : each_gives (whole_between 0 (2 ^ outs - 1)) ds ≡ Some rows = rw p at e in
-        let count : length ds ≡ 2 ^ ins = grind (arith, nat_tests) in
-        (gives_length (whole_between 0 (2 ^ outs - 1)) ds rows all ∙ count,
-            gives_each (whole_between 0 (2 ^ outs - 1)) (λ n. n < 2 ^ outs) (λ d y h. below_power outs y (whole_top 0 (2 ^ outs - 1) d y h)) ds rows all)
+        let count : length ds ≡ 2 ^ ins = grind (arith, nat_tests) in (
+          gives_length (whole_between 0 (2 ^ outs - 1)) ds rows all ∙ count,
+          gives_each (whole_between 0 (2 ^ outs - 1)) (λ n. n < 2 ^ outs) (λ d y h. below_power outs y (whole_top 0 (2 ^ outs - 1) d y h)) ds rows all,
+        )
     at false p = let no : None ≡ Some rows = rw p at e in cc
 
 given : {A : Type 0} (o : Option A) (fault : SettingsFault) (x : A) → ok_or o fault ≡ Ok x → o ≡ Some x

@@ -1,6 +1,6 @@
 -- Linear layers as texts and as numbers, and the names that are taken.
-use Rattle.std.proofs.Common.{◌≡◌, ℕ, ◌+◌, ◌^◌, ◌<◌, ◌≤◌, Bool, true, false, List, [], ◌∷◌, length, map, Option, None, Some, option_map, Bor, refl, sym, subst, ap, ap₂, ◌∙◌, arith}
-use Rattle.std.specs.Prelude.{◌==◌, ◌||◌, is_some, find, if◌then◌else◌, option_copied, slice_index_or}
+use Rattle.std.proofs.Common.{◌≡◌, ℕ, ◌^◌, ◌<◌, ◌≤◌, Bool, true, false, List, [], ◌∷◌, length, map, Option, None, Some, option_map, Bor, refl, sym, subst, ap, ap₂, ◌∙◌, arith}
+use Rattle.std.specs.Prelude.{◌==◌, is_some, find, if◌then◌else◌, option_copied, slice_index_or}
 use Rattle.std.proofs.lemmas.Bool.Decides.{nat_tests}
 use Rattle.netlist_spec.specs.Digits.{each_gives, bit_of_char, bits_of_text}
 use Rattle.netlist_spec.specs.Netlist.{Name, same_name, stands_in}

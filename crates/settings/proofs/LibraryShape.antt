@@ -1,6 +1,6 @@
 -- What holds of the library that a document has.
-use Rattle.std.proofs.Common.{◌≡◌, ℕ, Bool, true, false, List, [], ◌∷◌, ◌++◌, map, Option, None, Some, Result, Ok, Err, Less, nat_cmp, is_eq, refl, sym, subst, ap, ◌∙◌}
-use Rattle.std.specs.Prelude.{◌&&◌, ◌||◌, codes, not}
+use Rattle.std.proofs.Common.{◌≡◌, Bool, true, false, List, [], ◌∷◌, ◌++◌, map, Result, Ok, Err, Less, nat_cmp, is_eq, refl, sym, subst, ap, ◌∙◌}
+use Rattle.std.specs.Prelude.{codes}
 use Rattle.std.specs.Cmp.Lexicographic.{slice_cmp}
 use Rattle.std.specs.List.{AllByRecursion}
 use Rattle.std.specs.List.Sorted.{IsStrictlySortedBy}
@@ -8,9 +8,9 @@ use Rattle.std.proofs.lemmas.Map.Keys.{sorted_head, sorted_tail}
 use Rattle.std.proofs.lemmas.Map.Text.{is_eq-slice_cmp}
 use Rattle.netlist_spec.specs.Netlist.{Name, IsName, same_name, stands_in, are_distinct}
 use Rattle.netlist_spec.specs.Covers.{NamedTable, NamedLinear, IsTable, IsLinear, IsLibrary}
-use Rattle.guard_spec.specs.SettingsFile.{SettingsFault, as_members, all_of, entries_of, linear_entry, optional, ◌>>=◌}
+use Rattle.guard_spec.specs.SettingsFile.{SettingsFault, as_members, all_of, entries_of, linear_entry, optional}
 use Rattle.imp_text.proofs.NamesLemmas.{same_name-comm}
-use Rattle.toml.specs.Data.{Data, Members}
+use Rattle.toml.specs.Data.{Members}
 use Rattle.settings.specs.Library.{linears_of, IsNamedTable, IsNamedLinear}
 use Rattle.settings.proofs.EntryShapes.{linear_name}
 use Rattle.settings.proofs.Steps.{then_parts}
@@ -88,7 +88,7 @@ untaken : (taken : List Name) (doc : Members) (ls : List NamedLinear) → linear
 untaken taken doc ls has =
     let (layers, _, all) = then_parts (optional (codes "linear") (codes "linear") as_members doc) (λ layers. all_of (linear_entry taken) (entries_of layers)) ls has in
     all_hold (linear_entry taken) (λ l. stands_in l.name taken ≡ false) (λ e l h.
-      let (name, apart) = linear_name taken e l h in subst (λ (n : Name). stands_in n taken ≡ false) (sym name) apart) (entries_of layers) ls all
+    let (name, apart) = linear_name taken e l h in subst (λ (n : Name). stands_in n taken ≡ false) (sym name) apart) (entries_of layers) ls all
 
 pub library_made : (doc : Members) (ts : List NamedTable) (ls : List NamedLinear) → AllByRecursion IsNamedTable ts → AllByRecursion IsNamedLinear ls
     → IsStrictlySortedBy (slice_cmp nat_cmp) (map (λ t. t.name) ts) → IsStrictlySortedBy (slice_cmp nat_cmp) (map (λ l. l.name) ls) → linears_of (map (λ t. t.name) ts) doc ≡ Ok ls
@@ -96,10 +96,10 @@ pub library_made : (doc : Members) (ts : List NamedTable) (ls : List NamedLinear
 library_made doc ts ls all_tables all_linears tables_up linears_up has =
     record {
       distinct = both_distinct (map (λ (t : NamedTable). t.name) ts) (map (λ (l : NamedLinear). l.name) ls) (ascending_distinct (map (λ (t : NamedTable). t.name) ts) tables_up) (ascending_distinct (map (λ (l : NamedLinear). l.name) ls) linears_up)
-        (mapped (λ (l : NamedLinear). l.name) (λ n. stands_in n (map (λ t. t.name) ts) ≡ false) ls (untaken (map (λ t. t.name) ts) doc ls has));
+          (mapped (λ (l : NamedLinear). l.name) (λ n. stands_in n (map (λ t. t.name) ts) ≡ false) ls (untaken (map (λ t. t.name) ts) doc ls has));
       names = joined_all IsName (map (λ (t : NamedTable). t.name) ts) (map (λ (l : NamedLinear). l.name) ls)
-        (mapped (λ (t : NamedTable). t.name) IsName ts (weaker IsNamedTable (λ t. IsName t.name) (λ t h. h.0) ts all_tables))
-        (mapped (λ (l : NamedLinear). l.name) IsName ls (weaker IsNamedLinear (λ l. IsName l.name) (λ l h. h.0) ls all_linears));
+          (mapped (λ (t : NamedTable). t.name) IsName ts (weaker IsNamedTable (λ t. IsName t.name) (λ t h. h.0) ts all_tables))
+          (mapped (λ (l : NamedLinear). l.name) IsName ls (weaker IsNamedLinear (λ l. IsName l.name) (λ l h. h.0) ls all_linears));
       tables = weaker IsNamedTable (λ t. IsTable t.table) (λ t h. h.1) ts all_tables;
       linears = weaker IsNamedLinear (λ l. IsLinear l.layer) (λ l h. h.1) ls all_linears;
     }

@@ -40,10 +40,7 @@ fn document(alloc: Global, text: &str) -> Result<Table, SetFault>
 }
 
 // The tables and the layers of a document.
-fn library(
-    alloc: Global,
-    doc: &Table,
-) -> Result<(Vec<NamedTable>, Vec<NamedLinear>), SetFault>
+fn library(alloc: Global, doc: &Table) -> Result<(Vec<NamedTable>, Vec<NamedLinear>), SetFault>
     ensures ok { IfOk result (λ l. library_of (table_view doc.now) ≡ Ok (library_in l.0 l.1)) }
     ensures valid { IfOk result (λ l. IsLibrary (library_in l.0 l.1)) }
     ensures table_order { IfOk result (λ l. IsStrictlySortedBy (slice_cmp nat_cmp) (map (λ t. t.name) l.0.items)) }

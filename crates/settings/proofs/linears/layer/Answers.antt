@@ -38,13 +38,13 @@ returns-in-Some-2 c =
     let count = length-map vs view in
     let some : 1 ≤ length vs = some_values vs c.if-is_empty.ensures in
     layer_made c.in-Some.width (map view vs)
-        (layer_is (map view vs) c.in-Some.width (λ texts all. value_rows 128 128 vs c.index-values-0.result texts c.in-Some.width all some (omega arith) c.index-values-0.is c.in-Some.ensures (omega arith) (omega arith)))
-        c.in-Some-2.rows.items (omega arith) (rw c.in-Some-2.is at c.in_ok-rows.ensures)
+    (layer_is (map view vs) c.in-Some.width (λ texts all. value_rows 128 128 vs c.index-values-0.result texts c.in-Some.width all some (omega arith) c.index-values-0.is c.in-Some.ensures (omega arith) (omega arith)))
+    c.in-Some-2.rows.items (omega arith) (rw c.in-Some-2.is at c.in_ok-rows.ensures)
 
 pub returns-in-None-2 : goal.returns-in-None-2
 returns-in-None-2 c =
     let vs = c.args.values.now in
     let some : 1 ≤ length vs = some_values vs c.if-is_empty.ensures in
     layer_refused c.in-Some.width (map view vs)
-        (layer_is (map view vs) c.in-Some.width (λ texts all. value_rows 128 128 vs c.index-values-0.result texts c.in-Some.width all some (omega arith) c.index-values-0.is c.in-Some.ensures (omega arith) (omega arith)))
-        (rw c.in-None-2.is at c.in_ok-rows.ensures)
+    (layer_is (map view vs) c.in-Some.width (λ texts all. value_rows 128 128 vs c.index-values-0.result texts c.in-Some.width all some (omega arith) c.index-values-0.is c.in-Some.ensures (omega arith) (omega arith)))
+    (rw c.in-None-2.is at c.in_ok-rows.ensures)

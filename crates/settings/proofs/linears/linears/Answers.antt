@@ -1,7 +1,7 @@
-use Rattle.std.proofs.Common.{◌≡◌, List, [], ◌∷◌, map, Ok, String, Global, sym, ◌∙◌, ap}
+use Rattle.std.proofs.Common.{List, [], map, String, Global, sym, ◌∙◌, ap}
 use Rattle.std.specs.Map.Iter.{deref_pair}
 use Rattle.std.proofs.lemmas.List.{map-append}
-use Rattle.std.proofs.lemmas.Map.Iter.{rest_more, rest_all}
+use Rattle.std.proofs.lemmas.Map.Iter.{rest_more}
 use Rattle.std.proofs.lemmas.Result.{err_from_is_err_and}
 use Rattle.netlist_spec.specs.Covers.{NamedLinear}
 use Rattle.guard_spec.specs.SettingsFile.{all_of, linear_entry}
@@ -26,7 +26,7 @@ loop-name-preserved c =
     let next = rest_more (deref_pair {K = String Global} {X = Value}) c.loop-name.name-iterator c.next.new.self c.next.result (c.in-Some.name, c.in-Some.value) c.in-Some.is c.next.ensures.steps in
     rw (c.in_ok-push.ensures.items, map-append) (
       entry_gives (linear_entry (map (λ t. t.name) c.args.tables.now)) c.args.entries.now.entries c.loop-name.name-iterator (map named_linear_of c.loop-name.linears.items) so_far
-        c.in-Some.name.now c.in-Some.value.now c.next.new.self next c.as_str.result.now c.as_str.ensures.value (named_linear_of c.in_ok-linear.linear) c.in_ok-linear.ensures.ok,
+          c.in-Some.name.now c.in-Some.value.now c.next.new.self next c.as_str.result.now c.as_str.ensures.value (named_linear_of c.in_ok-linear.linear) c.in_ok-linear.ensures.ok,
       all_push IsNamedLinear (map named_linear_of c.loop-name.linears.items) (named_linear_of c.in_ok-linear.linear) valid c.in_ok-linear.ensures.valid,
     )
 
@@ -36,8 +36,8 @@ returns-in_err-linear-clause-err c =
     let next = rest_more (deref_pair {K = String Global} {X = Value}) c.loop-name.name-iterator c.next.new.self c.next.result (c.in-Some.name, c.in-Some.value) c.in-Some.is c.next.ensures.steps in
     let p = err_from_is_err_and c.from_residual.result c.from_residual.ensures.1 in
     rw (p.1, p.2) (
-      entry_fails (linear_entry (map (λ t. t.name) c.args.tables.now)) c.args.entries.now.entries c.loop-name.name-iterator (map named_linear_of c.loop-name.linears.items) so_far
-        c.in-Some.name.now c.in-Some.value.now c.next.new.self next c.as_str.result.now c.as_str.ensures.value (fault_of c.in_err-linear.field-0.0) c.in_err-linear.ensures.err
+    entry_fails (linear_entry (map (λ t. t.name) c.args.tables.now)) c.args.entries.now.entries c.loop-name.name-iterator (map named_linear_of c.loop-name.linears.items) so_far
+    c.in-Some.name.now c.in-Some.value.now c.next.new.self next c.as_str.result.now c.as_str.ensures.value (fault_of c.in_err-linear.field-0.0) c.in_err-linear.ensures.err
     )
 
 pub returns-clause-ok : goal.returns-clause-ok
@@ -46,5 +46,5 @@ returns-clause-ok c = entries_end (linear_entry (map (λ t. t.name) c.args.table
 pub returns-clause-order : goal.returns-clause-order
 returns-clause-order c =
     ascending_names (linear_entry (map (λ t. t.name) c.args.tables.now)) named_linear_of (λ (x : NamedLinear). x.name) (λ e l h. (linear_name (map (λ t. t.name) c.args.tables.now) e l h).0) c.args.entries.now.entries c.loop-name.linears.items
-        (entries_end (linear_entry (map (λ t. t.name) c.args.tables.now)) c.args.entries.now.entries c.loop-name.name-iterator (map named_linear_of c.loop-name.linears.items) c.loop-name.invariant.0 c.in-None.ensures.steps.0)
-        c.into_iter-name-iterator.ensures.into_iter_gives.5
+    (entries_end (linear_entry (map (λ t. t.name) c.args.tables.now)) c.args.entries.now.entries c.loop-name.name-iterator (map named_linear_of c.loop-name.linears.items) c.loop-name.invariant.0 c.in-None.ensures.steps.0)
+    c.into_iter-name-iterator.ensures.into_iter_gives.5

@@ -12,8 +12,8 @@ returns-in-None c =
 pub loop-value-preserved : goal.loop-value-preserved
 loop-value-preserved c =
     rw c.in_ok-push-in-Some.ensures.items (
-      values_more (number_at c.args.width) c.args.values.now c.loop-value.value-index c.value-item.result c.loop-value.rows.items c.in-Some.row (omega arith) c.value-item.is c.loop-value.invariant
-        (some_number c.args.width (view c.value-item.result) c.in-Some.row c.in-Some.ensures.within c.in-Some.ensures.bits)
+    values_more (number_at c.args.width) c.args.values.now c.loop-value.value-index c.value-item.result c.loop-value.rows.items c.in-Some.row (omega arith) c.value-item.is c.loop-value.invariant
+    (some_number c.args.width (view c.value-item.result) c.in-Some.row c.in-Some.ensures.within c.in-Some.ensures.bits)
     )
 
 pub returns : goal.returns

@@ -28,8 +28,8 @@ returns-in_err-linears-clause-err c =
     let same = names c.deref.result.now ts c.deref.ensures.value in
     let p = err_from_is_err_and c.from_residual-in_err-linears.result c.from_residual-in_err-linears.ensures.1 in
     rw (p.1, p.2) (
-      linears_fail doc (map named_table_of ts) (fault_of c.in_err-linears.field-0.0) c.in_ok-tables.ensures.ok
-        (subst (λ (taken : List (List ℕ)). IsFault (linears_of taken doc) (fault_of c.in_err-linears.field-0.0)) same c.in_err-linears.ensures.err)
+    linears_fail doc (map named_table_of ts) (fault_of c.in_err-linears.field-0.0) c.in_ok-tables.ensures.ok
+    (subst (λ (taken : List (List ℕ)). IsFault (linears_of taken doc) (fault_of c.in_err-linears.field-0.0)) same c.in_err-linears.ensures.err)
     )
 
 pub returns-clause-ok : goal.returns-clause-ok
@@ -47,6 +47,6 @@ returns-clause-valid c =
     let ls = map named_linear_of c.in_ok-linears.linears.items in
     let same = names c.deref.result.now ts c.deref.ensures.value in
     library_made doc (map named_table_of ts) ls c.in_ok-tables.ensures.valid c.in_ok-linears.ensures.valid
-        (subst (IsStrictlySortedBy (slice_cmp nat_cmp)) (sym (map_twice named_table_of (λ (t : NamedTable). t.name) ts)) c.in_ok-tables.ensures.order)
-        (subst (IsStrictlySortedBy (slice_cmp nat_cmp)) (sym (map_twice named_linear_of (λ (l : NamedLinear). l.name) c.in_ok-linears.linears.items)) c.in_ok-linears.ensures.order)
-        (subst (λ (taken : List (List ℕ)). linears_of taken doc ≡ Ok ls) same c.in_ok-linears.ensures.ok)
+    (subst (IsStrictlySortedBy (slice_cmp nat_cmp)) (sym (map_twice named_table_of (λ (t : NamedTable). t.name) ts)) c.in_ok-tables.ensures.order)
+    (subst (IsStrictlySortedBy (slice_cmp nat_cmp)) (sym (map_twice named_linear_of (λ (l : NamedLinear). l.name) c.in_ok-linears.linears.items)) c.in_ok-linears.ensures.order)
+    (subst (λ (taken : List (List ℕ)). linears_of taken doc ≡ Ok ls) same c.in_ok-linears.ensures.ok)

@@ -1,4 +1,4 @@
-use Rattle.std.proofs.Common.{◌≡◌, ◌∙◌, arith}
+use Rattle.std.proofs.Common.{◌∙◌, arith}
 use Rattle.toml.specs.View.{view}
 use Rattle.settings.proofs.Arrays.{values_fit, values_misfit}
 use Rattle.settings.proofs.tables.rows_of_value.Goals as goal
