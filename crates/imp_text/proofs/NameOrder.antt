@@ -1,8 +1,7 @@
 -- What a search by halving finds among names in byte order.
-use Rattle.std.proofs.Common.{◌≡◌, ℕ, zero, suc, ◌+◌, ◌<◌, ◌≤◌, Bool, true, false, List, [], ◌∷◌, length, get_or, map, Option, None, Some, Result, Ok, Err, Ordering, Less, Equal, Greater, nat_cmp, is_eq, refl, sym, ap, ◌∙◌, inl, inr, arith}
-use Rattle.std.specs.Cmp.{IsTotalOrder}
+use Rattle.std.proofs.Common.{◌≡◌, ℕ, zero, suc, ◌+◌, ◌<◌, false, List, [], ◌∷◌, length, get_or, map, None, Some, Result, Ok, Err, Ordering, Less, Equal, Greater, nat_cmp, is_eq, refl, sym, ap, ◌∙◌, inl, inr, arith}
 use Rattle.std.specs.Cmp.Lexicographic.{slice_cmp}
-use Rattle.std.specs.List.{find, AllByRecursion}
+use Rattle.std.specs.List.{find}
 use Rattle.std.specs.List.Sorted.{IsStrictlySortedBy, IsSortedBy, IsBinarySearchResult, IsSearchInRange}
 use Rattle.std.specs.Ordering.{is_lt, ordering_reverse}
 use Rattle.std.specs.Prelude.{MatchResult}
@@ -46,7 +45,7 @@ module _ {X : Type 0} (name : X → List ℕ) (n : List ℕ) where
       let next : get_or (map name xs) (k + 1) n ≡ name (get_or xs (k + 1) d) = get_or-map name xs (k + 1) d n inside in
       let less : slice_cmp nat_cmp (get_or (map name xs) k n) (get_or (map name xs) (k + 1) n) ≡ Less = Less-from_sorted (slice_cmp nat_cmp) (map name xs) k (k + 1) n ascending (omega arith) (omega arith) in
       let turned : slice_cmp nat_cmp (name (get_or xs (k + 1) d)) (name (get_or xs k d)) ≡ ordering_reverse Less =
-          nat_list_cmp_total.antisymm (name (get_or xs (k + 1) d)) (name (get_or xs k d)) ∙ ap ordering_reverse (rw (here, next) at less) in
+      nat_list_cmp_total.antisymm (name (get_or xs (k + 1) d)) (name (get_or xs k d)) ∙ ap ordering_reverse (rw (here, next) at less) in
       ap is_lt turned
 
   -- The item of a name stands where the search says, and where it finds none there is none.
