@@ -5,4 +5,3 @@ pub mod WordLemmas
 pub mod TokenLemmas
 pub mod LinesLemmas
 pub mod NamesLemmas
-pub mod NameOrder

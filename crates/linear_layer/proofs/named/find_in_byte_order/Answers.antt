@@ -2,7 +2,7 @@ use Rattle.std.proofs.Common.{Some, Ok, Err, sym, ap, ◌∙◌, rules, tests}
 use Rattle.std.specs.Cmp.Lexicographic.{slice_cmp}
 use Rattle.std.specs.Ordering.{nat_cmp}
 use Rattle.std.proofs.lemmas.Fn.{always_returns_same}
-use Rattle.imp_text.proofs.NameOrder.{found_by_halving}
+use Rattle.reduction.proofs.NameOrder.{found_by_halving}
 use Rattle.linear_layer.specs.declared.layer.NamedLinear.{NamedLinear}
 use Rattle.linear_layer.proofs.named.find_in_byte_order.Goals as goal
 
