@@ -1,3 +1,4 @@
+pub mod OwnLemmas
 pub mod StepLemmas
 pub mod FlatLemmas
 pub mod CodeLemmas

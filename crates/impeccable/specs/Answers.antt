@@ -1,5 +1,5 @@
 -- What each answer of a command says, and which outcome it must have.
-use Rattle.std.specs.Prelude.{◌≡◌, ◌⊎◌, ◌+◌, List, ℕ, IsSome, ⊤}
+use Rattle.std.specs.Prelude.{◌≡◌, ◌≢◌, ◌⊎◌, ◌+◌, List, ℕ, IsSome, ⊤}
 use Rattle.std.specs.Io.KnownBytes.{Appends}
 use Rattle.imp_io.specs.Counts.{Rose, RoseBy, Stayed}
 use Rattle.imp_io.specs.Files.{FilesSeen, bytes_at, own_count}
@@ -35,6 +35,11 @@ pub record LoadFailed (command : Command) (old new : FilesSeen) (name : List ℕ
   pub rose : Rose old.faults new.faults
   pub named : (limit : ℕ) × HasLoad (walk_of command) name limit
   pub file : WhereTold old (λ contents. ComesToLoad (walk_of command) contents name × (IsSome (contents name) → Rose (own_count old.told name) (own_count new.told name)))
+
+-- No own count of a file rose, but that of the file whose load failed.
+abbrev pub KeepsOwn : FilesSeen → FilesSeen → Answer → Type 0
+KeepsOwn old new (read_fault failed) = (name : List ℕ) → name ≢ failed → own_count new.told name ≡ own_count old.told name
+KeepsOwn old new _ = (name : List ℕ) → own_count new.told name ≡ own_count old.told name
 
 -- What each answer of a command says: `old` and `new` are the files before and after the run, `out` and `out'` what it
 -- writes to.

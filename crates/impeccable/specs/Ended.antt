@@ -27,6 +27,11 @@ abbrev pub answer_of : Result Success Stop → Answer
 answer_of (Ok success) = success_answer success
 answer_of (Err stop) = stop_answer stop
 
+-- that of a part of a command, which is done where nothing stops it
+abbrev pub part_answer : {T : Type 0} → Result T Stop → Answer
+part_answer (Ok made) = done
+part_answer (Err stop) = stop_answer stop
+
 -- A fault of a layer is that refusal, and want of memory where it is none.
 abbrev pub fault_answer : (F : Type 0) → (F → Refusal) → Option F → Answer
 fault_answer F told None = no_memory

@@ -1,5 +1,5 @@
 -- What is put to the error output.
-use Rattle.std.specs.Prelude.{◌≡◌, ℕ, List, ◌++◌, ◌∷◌, [], codes, decimal, Result, MatchOption}
+use Rattle.std.specs.Prelude.{◌≡◌, ℕ, List, ◌++◌, ◌∷◌, [], codes, decimal, Option, None, Some, Result, MatchOption}
 use Rattle.std.specs.List.{flat_map}
 use Rattle.std.specs.Io.KnownBytes.{Appends}
 use Rattle.imp_io.specs.Counts.{Stayed}
@@ -7,14 +7,24 @@ use Rattle.imp_io.specs.Sink.{SinkSeen, AppendsPrefix, Puts}
 use Rattle.imp_io.specs.declared.fault.SinkFault.{SinkFault}
 use Rattle.program_spec.specs.ErrorLines.{Answer, answer_line}
 use Rattle.netlist_spec.specs.Escapes.{escape}
+use Rattle.impeccable.specs.declared.told.Told.{Told}
 
 -- a text, a name as it is printed, and the end of the line
 abbrev pub named_line : List ℕ → List ℕ → List ℕ
 named_line front name = front ++ flat_map escape name ++ 10 ∷ []
 
--- the number of a refusal and that of a line of the netlist
-abbrev pub place_text : List ℕ → ℕ → List ℕ
-place_text number line = codes "impeccable: " ++ number ++ codes " line " ++ decimal line ++ 32 ∷ []
+-- what a line begins with, in the pieces that are put
+abbrev pub front_text : List ℕ → Option ℕ → List ℕ
+front_text number None = codes "impeccable: " ++ (number ++ (codes " " ++ []))
+front_text number (Some line) = codes "impeccable: " ++ (number ++ (codes " line " ++ (decimal line ++ (codes " " ++ []))))
+
+-- the text of what is told of a refusal
+abbrev pub place_text : Option ℕ → List ℕ
+place_text None = []
+place_text (Some line) = codes " line " ++ decimal line
+
+abbrev pub told_text : Told → List ℕ
+told_text told = told.number.now ++ place_text told.line ++ 32 ∷ (told.text.now ++ flat_map escape told.name.now)
 
 -- The line was put, or a prefix of it at the first put that failed.
 abbrev pub PutsAnswer : {T : Type 0} → Answer → SinkSeen → Result T SinkFault → SinkSeen → Type 0

@@ -7,9 +7,9 @@ ghost use Rattle.netlist_spec.specs.Covers.{has_bit};
 ghost use Rattle.netlist_spec.specs.Statements.{bit_char};
 ghost use Rattle.program_spec.specs.Commands.{code as code_command};
 ghost use Rattle.program_spec.specs.Printed.{bits_text};
-ghost use Rattle.impeccable.specs.Answers.{Answers};
+ghost use Rattle.impeccable.specs.Answers.{Answers, KeepsOwn};
 ghost use Rattle.impeccable.specs.Code.{Measures, number_text, report_lines, size_text, word_line};
-ghost use Rattle.impeccable.specs.Ended.{answer_of};
+ghost use Rattle.impeccable.specs.Ended.{answer_of, part_answer};
 ghost use Rattle.impeccable.specs.Steps.{Prepares};
 
 use crate::ended::{Ended, Stop, Success};
@@ -43,6 +43,7 @@ pub(crate) fn report_code<'a, F: Files, O: Sink>(
     out: &mut O,
 ) -> Ended<'a>
     ensures answers { Answers (code_command settings.now) (F.seen files.old) (F.seen files.new) (O.seen out.old) (O.seen out.new) (answer_of result) }
+    ensures own { KeepsOwn (F.seen files.old) (F.seen files.new) (answer_of result) }
     ensures later { IsLater (F.seen files.old) (F.seen files.new) }
 {
     let report = read_settings(alloc, settings, files)?;
@@ -58,6 +59,7 @@ fn read_settings<'a, F: Files>(
 ) -> Result<Report, Stop<'a>>
     ensures prepares { Prepares (code_command settings.now) report_lines (F.seen files.old) result (F.seen files.new) }
     ensures few { IfOk result (λ report. report.data_places ≤ 12) }
+    ensures own { KeepsOwn (F.seen files.old) (F.seen files.new) (part_answer result) }
     ensures later { IsLater (F.seen files.old) (F.seen files.new) }
 {
     let bytes = load_named(alloc, files, settings, LONGEST_SETTINGS)?;

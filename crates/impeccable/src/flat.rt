@@ -9,8 +9,8 @@ ghost use Rattle.netlist_spec.specs.Reads.{Reads};
 ghost use Rattle.netlist_spec.specs.WrittenText.{IsFlatText};
 ghost use Rattle.blif_read.specs.Ids.{HasIds};
 ghost use Rattle.blif_read.specs.View.{file_of};
-ghost use Rattle.impeccable.specs.Answers.{Answers};
-ghost use Rattle.impeccable.specs.Ended.{answer_of};
+ghost use Rattle.impeccable.specs.Answers.{Answers, KeepsOwn};
+ghost use Rattle.impeccable.specs.Ended.{answer_of, part_answer};
 ghost use Rattle.impeccable.specs.Flat.{named_text};
 ghost use Rattle.impeccable.specs.Steps.{Prepares};
 
@@ -37,6 +37,7 @@ pub(crate) fn write_flat<'a, F: Files, O: Sink>(
     out: &mut O,
 ) -> Ended<'a>
     ensures answers { Answers (flat_command netlist.now) (F.seen files.old) (F.seen files.new) (O.seen out.old) (O.seen out.new) (answer_of result) }
+    ensures own { KeepsOwn (F.seen files.old) (F.seen files.new) (answer_of result) }
     ensures later { IsLater (F.seen files.old) (F.seen files.new) }
 {
     let named = read_netlist(alloc, netlist, files)?;
@@ -51,6 +52,7 @@ fn read_netlist<'a, F: Files>(
     files: &mut F,
 ) -> Result<Named, Stop<'a>>
     ensures prepares { Prepares (flat_command netlist.now) named_text (F.seen files.old) result (F.seen files.new) }
+    ensures own { KeepsOwn (F.seen files.old) (F.seen files.new) (part_answer result) }
     ensures later { IsLater (F.seen files.old) (F.seen files.new) }
 {
     let bytes = load_named(alloc, files, netlist, LONGEST_NETLIST)?;

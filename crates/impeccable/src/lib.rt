@@ -10,6 +10,7 @@ mod flat;
 mod load;
 mod outcome;
 mod program;
+mod told;
 
 pub use outcome::{Outcome, Refusal};
 pub use program::run;

@@ -1,5 +1,7 @@
 // The load of a file that a command names.
 ghost use Rattle.imp_io.specs.Files.{IsLater};
+ghost use Rattle.impeccable.specs.Answers.{KeepsOwn};
+ghost use Rattle.impeccable.specs.Ended.{part_answer};
 ghost use Rattle.impeccable.specs.Steps.{LoadsNamed};
 
 use crate::Refusal;
@@ -15,6 +17,7 @@ pub(crate) fn load_named<'a, F: Files>(
     most: usize,
 ) -> Result<Vec<u8>, Stop<'a>>
     ensures named { LoadsNamed (F.seen files.old) name.now most result (F.seen files.new) }
+    ensures own { KeepsOwn (F.seen files.old) (F.seen files.new) (part_answer result) }
     ensures later { IsLater (F.seen files.old) (F.seen files.new) }
 {
     match files.load(alloc, name, most) {

@@ -3,7 +3,7 @@ ghost use Rattle.std.specs.Prelude.{◌≡◌, ◌↔◌, map, string_bytes, IfS
 ghost use Rattle.imp_io.specs.Files.{IsLater};
 ghost use Rattle.program_spec.specs.Commands.{command_of};
 ghost use Rattle.program_spec.specs.ErrorLines.{Answer, usage};
-ghost use Rattle.impeccable.specs.Answers.{Answers, FindsThere, IsComplete, RefusesThere};
+ghost use Rattle.impeccable.specs.Answers.{Answers, FindsThere, IsComplete, KeepsOwn, RefusesThere};
 ghost use Rattle.impeccable.specs.Command.{as_asked};
 ghost use Rattle.impeccable.specs.Ended.{answer_of};
 ghost use Rattle.impeccable.specs.Outcome.{IsAnswer};
@@ -35,6 +35,7 @@ pub fn run<F: Files, O: Sink, E: Sink>(
     ensures answers { IfSome (command_of (map string_bytes words.now)) (λ command.
         (answer : Answer) × IsAnswer result answer
         × Answers command (F.seen files.old) (F.seen files.new) (O.seen out.old) (O.seen out.new) answer
+        × KeepsOwn (F.seen files.old) (F.seen files.new) answer
         × Says answer (E.seen err.old) (E.seen err.new)) }
 
     // When an outcome must come, want of memory aside.
@@ -67,6 +68,7 @@ fn perform<'a, F: Files, O: Sink>(
     out: &mut O,
 ) -> Ended<'a>
     ensures answers { Answers (as_asked command.entry) (F.seen files.old) (F.seen files.new) (O.seen out.old) (O.seen out.new) (answer_of result) }
+    ensures own { KeepsOwn (F.seen files.old) (F.seen files.new) (answer_of result) }
     ensures later { IsLater (F.seen files.old) (F.seen files.new) }
 {
     match command {

@@ -1,6 +1,8 @@
 -- The report is prepared, and then written.
 use Rattle.std.proofs.lemmas.Result.{err_from_is_err_and}
 use Rattle.program_spec.specs.Commands.{code}
+use Rattle.impeccable.specs.Ended.{stop_answer}
+use Rattle.impeccable.proofs.OwnLemmas.{keeps}
 use Rattle.impeccable.proofs.StepLemmas.{put-stops}
 use Rattle.impeccable.proofs.code.report_code.Goals as goal
 
@@ -18,3 +20,13 @@ pub returns-clause-answers : goal.returns-clause-answers
 returns-clause-answers g c = λ known.
     let passed = c.in_ok-report.ensures.prepares known in
     (passed.0, _, passed.1, c.in_ok-write_report.ensures.whole)
+
+pub returns-in_err-report-clause-own : goal.returns-in_err-report-clause-own
+returns-in_err-report-clause-own g c =
+    let p = err_from_is_err_and c.from_residual.result c.from_residual.ensures.1 in
+    rw (p.1, p.2) c.in_err-report.ensures.own
+
+pub returns-in_err-write_report-clause-own : goal.returns-in_err-write_report-clause-own
+returns-in_err-write_report-clause-own g c =
+    let p = err_from_is_err_and c.from_residual-in_err-write_report.result c.from_residual-in_err-write_report.ensures.1 in
+    rw p.1 (keeps (g.F.Files.seen c.args.files.now) (g.F.Files.seen c.read_settings.new.files) (stop_answer p.0) c.in_ok-report.ensures.own)

@@ -5,6 +5,8 @@ use Rattle.program_spec.specs.Commands.{flat, netlist_limit}
 use Rattle.program_spec.specs.Refusals.{not_yet}
 use Rattle.program_spec.specs.Walk.{passes}
 use Rattle.blif_read.specs.View.{file_of}
+use Rattle.impeccable.specs.Ended.{stop_answer}
+use Rattle.impeccable.proofs.OwnLemmas.{keeps}
 use Rattle.impeccable.proofs.FlatLemmas.{loaded, read, ready, unloaded, unread, not-ready}
 use Rattle.impeccable.proofs.flat.read_netlist.Goals as goal
 
@@ -36,3 +38,23 @@ returns-clause-prepares g c = λ known.
     let kept = read c.args.netlist.now old _ file held reads in
     let passed = ready c.args.netlist.now old file kept (rw c.if-not-branch.false at c.in_ok-is_flat_ready.ensures.ready) in
     (passed.verdict known passes refl, rw (c.in_ok-bytes.ensures.named.1 known) (c.in_ok-named.ensures _ reads))
+
+pub returns-in_err-bytes-clause-own : goal.returns-in_err-bytes-clause-own
+returns-in_err-bytes-clause-own g c =
+    let p = err_from_is_err_and c.from_residual.result c.from_residual.ensures.1 in
+    rw (p.1, p.2) c.in_err-bytes.ensures.own
+
+pub returns-in_err-file-clause-own : goal.returns-in_err-file-clause-own
+returns-in_err-file-clause-own g c =
+    let p = err_from_is_err_and c.from_residual-in_err-file.result c.from_residual-in_err-file.ensures.1 in
+    rw p.1 (keeps (g.F.Files.seen c.args.files.now) (g.F.Files.seen c.load_named.new.files) (stop_answer p.0) c.in_ok-bytes.ensures.own)
+
+pub returns-in_err-is_flat_ready-clause-own : goal.returns-in_err-is_flat_ready-clause-own
+returns-in_err-is_flat_ready-clause-own g c =
+    let p = err_from_is_err_and c.from_residual-in_err-is_flat_ready.result c.from_residual-in_err-is_flat_ready.ensures.1 in
+    rw p.1 (keeps (g.F.Files.seen c.args.files.now) (g.F.Files.seen c.load_named.new.files) (stop_answer p.0) c.in_ok-bytes.ensures.own)
+
+pub returns-in_err-named-clause-own : goal.returns-in_err-named-clause-own
+returns-in_err-named-clause-own g c =
+    let p = err_from_is_err_and c.from_residual-in_err-named.result c.from_residual-in_err-named.ensures.1 in
+    rw p.1 (keeps (g.F.Files.seen c.args.files.now) (g.F.Files.seen c.load_named.new.files) (stop_answer p.0) c.in_ok-bytes.ensures.own)

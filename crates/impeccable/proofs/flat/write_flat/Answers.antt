@@ -1,6 +1,8 @@
 -- The flat netlist is prepared, and then written.
 use Rattle.std.proofs.lemmas.Result.{err_from_is_err_and}
 use Rattle.program_spec.specs.Commands.{flat}
+use Rattle.impeccable.specs.Ended.{stop_answer}
+use Rattle.impeccable.proofs.OwnLemmas.{keeps}
 use Rattle.impeccable.proofs.StepLemmas.{write-stops}
 use Rattle.impeccable.proofs.flat.write_flat.Goals as goal
 
@@ -18,3 +20,13 @@ pub returns-clause-answers : goal.returns-clause-answers
 returns-clause-answers g c = λ known.
     let passed = c.in_ok-named.ensures.prepares known in
     (passed.0, _, passed.1, c.in_ok-write.ensures.puts.whole)
+
+pub returns-in_err-named-clause-own : goal.returns-in_err-named-clause-own
+returns-in_err-named-clause-own g c =
+    let p = err_from_is_err_and c.from_residual.result c.from_residual.ensures.1 in
+    rw (p.1, p.2) c.in_err-named.ensures.own
+
+pub returns-in_err-write-clause-own : goal.returns-in_err-write-clause-own
+returns-in_err-write-clause-own g c =
+    let p = err_from_is_err_and c.from_residual-in_err-write.result c.from_residual-in_err-write.ensures.1 in
+    rw p.1 (keeps (g.F.Files.seen c.args.files.now) (g.F.Files.seen c.read_netlist.new.files) (stop_answer p.0) c.in_ok-named.ensures.own)
