@@ -27,7 +27,34 @@ parity_distance =
 
 pub inverter_is_accepted : IsAccepted inverter_contents (codes "s.toml") (codes "inv.blif")
 inverter_is_accepted =
-    let sized = inl (tt, (38, inverter_plain, lit≤ tt), refl) in
-    let words = record { state = (refl, (lit≤ tt, lit≤ tt)); output = (refl, (lit≤ tt, lit≤ tt)) } in
-    let read = inl (inverter_file, inverter_reads, inl (tt, inverter_is_sound, inl (inverter_model, refl, inl (inverter_layout, (refl, words), sized)))) in
-    inr (lit≤ tt, inl (parity_settings, parity_is_read, inl (tt, (2, parity_distance, lit≤ tt), inr (lit≤ tt, read))))
+    inr (
+      lit≤ tt,
+      inl (
+        parity_settings,
+        parity_is_read,
+        inl (
+          tt,
+          (2, parity_distance, lit≤ tt),
+          inr (
+            lit≤ tt,
+            inl (
+              inverter_file,
+              inverter_reads,
+              inl (
+                tt,
+                inverter_is_sound,
+                inl (
+                  inverter_model,
+                  refl,
+                  inl (
+                    inverter_layout,
+                    (refl, record { state = (refl, (lit≤ tt, lit≤ tt)); output = (refl, (lit≤ tt, lit≤ tt)) }),
+                    inl (tt, (38, inverter_plain, lit≤ tt), refl),
+                  ),
+                ),
+              ),
+            ),
+          ),
+        ),
+      ),
+    )
