@@ -1,5 +1,5 @@
 #!/bin/sh
-# Measures `flat` on thin netlists of 100,000, 200,000 and 400,000 `.names`, and on a chain of 100,000 inverters: seconds,
+# Measures `flat` on thin netlists of 100,000, 200,000 and 400,000 `.names`, and on a chain of 100,000 inverters: processor seconds,
 # peak memory for each byte of input, and, where the peer ABC is installed, the ratio to its `read_blif; write_blif` on the same file.
 # The figures of one run go together, since machines are noisy. Needs python3.
 top=$(CDPATH='' cd -- "$(dirname -- "$0")/.." && pwd) && cd "$top" || exit 1
@@ -7,7 +7,7 @@ work=$(mktemp -d) || exit 1
 trap 'rm -rf "$work"' EXIT
 ./impeccable >/dev/null 2>&1
 exec python3 - "$top/impeccable" "$work" <<'END'
-import os, resource, shutil, subprocess, sys, time
+import os, resource, shutil, subprocess, sys
 
 program, work = sys.argv[1:]
 
@@ -30,10 +30,9 @@ def run(words, out):
     # the best of three runs, and the peak memory of one
     best, peak = None, 0
     for _ in range(3):
-        start = time.perf_counter()
         process = subprocess.Popen(words, stdout=open(out, "w"), stderr=subprocess.STDOUT)
         _, status, usage = os.wait4(process.pid, 0)
-        seconds = time.perf_counter() - start
+        seconds = usage.ru_utime + usage.ru_stime
         if status:
             sys.exit(f"{words}: status {status}: " + open(out).read(200))
         best = seconds if best is None else min(best, seconds)
