@@ -10,7 +10,7 @@ use Rattle.toml.specs.Data.{Data, string, integer, array, table, Items, no_items
 use Rattle.toml.specs.Parse.{parse_document}
 use Rattle.netlist_spec.specs.Digits.{each_gives, bits_of_text}
 use Rattle.netlist_spec.specs.Netlist.{Name, IsName, same_name, stands_in}
-use Rattle.netlist_spec.specs.Covers.{Linear, NamedTable, NamedLinear, IsLibrary, empty_library, number_of}
+use Rattle.netlist_spec.specs.Covers.{Linear, NamedTable, NamedLinear, IsLibrary, number_of}
 use Rattle.netlist_spec.specs.SourceRun.{Bits}
 use Rattle.guard_spec.specs.Codes.{Code, IsCode, data_places, Mode, detect, correct}
 use Rattle.guard_spec.specs.Words.{Settings}
@@ -211,30 +211,6 @@ of_document (Some doc) = settings_of doc
 
 unfoldable pub settings_of_bytes : List ℕ → Result Settings SettingsFault
 settings_of_bytes bytes = if is_utf8 bytes then of_document (parse_document bytes) else Err not_toml
-
--- ---- until tables and layers are read
-
-abbrev pub keys_without_library : List (List ℕ)
-keys_without_library = codes "mode" ∷ codes "bound" ∷ codes "check" ∷ codes "state_words" ∷ codes "output_words" ∷ []
-
--- The same where `sbox` and `linear` are other keys, so that there is no library.
-abbrev pub settings_without_library : Members → Result Settings SettingsFault
-settings_without_library doc = do
-  mode ← needed (codes "mode") (codes "mode") mode_of doc
-  bound ← needed (codes "bound") (codes "bound") (whole_between 1 16) doc
-  texts ← needed (codes "check") (codes "check") texts_of doc
-  rows ← ok_or (bit_rows 12 16 texts) bad_shape
-  states ← optional (codes "state_words") (codes "state_words") (words_of (length rows)) doc
-  outs ← optional (codes "output_words") (codes "output_words") (words_of (length rows)) doc
-  _ ← no_other_key (λ key. key) keys_without_library doc
-  Ok (record { mode = mode; bound = bound; code = code_of rows; state_words = states; output_words = outs; library = empty_library })
-
-abbrev pub of_document_without_library : Option Members → Result Settings SettingsFault
-of_document_without_library None = Err not_toml
-of_document_without_library (Some doc) = settings_without_library doc
-
-unfoldable pub settings_without_library_of : List ℕ → Result Settings SettingsFault
-settings_without_library_of bytes = if is_utf8 bytes then of_document_without_library (parse_document bytes) else Err not_toml
 
 -- ---- what holds of all settings
 

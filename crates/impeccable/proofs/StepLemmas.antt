@@ -7,12 +7,12 @@ use Rattle.imp_io.specs.declared.fault.SinkFault.{SinkFault}
 use Rattle.imp_io.specs.declared.fault.SinkFault.TheVariants.{Failed, NoMemory as NoRoom}
 use Rattle.netlist_spec.specs.Netlist.{File}
 use Rattle.netlist_spec.specs.ReadFaults.{ReadFault as Unread, read_fault}
-use Rattle.guard_spec.specs.SettingsFile.{SettingsFault, settings_without_library_of}
+use Rattle.guard_spec.specs.SettingsFile.{SettingsFault, settings_of_bytes}
 use Rattle.guard_spec.specs.Words.{Settings}
 use Rattle.program_spec.specs.Commands.{Command}
 use Rattle.program_spec.specs.Refusals.{Refusal, file_too_long, unreadable, bad_settings}
 use Rattle.program_spec.specs.Walk.{Contents, Verdict, passes, refused as refuses, Test, Walk, end, load, test, ComesTo}
-use Rattle.program_spec.specs.Steps.{reading, settings_without_library_in}
+use Rattle.program_spec.specs.Steps.{reading, settings_in}
 use Rattle.program_spec.specs.Verdict.{walk_of, IsVerdict, IsDoneText}
 use Rattle.program_spec.specs.ErrorLines.{refused, no_memory}
 use Rattle.blif_write.specs.declared.refusal.WriteRefusal.{WriteRefusal}
@@ -76,9 +76,9 @@ is-settings-fault : (answer : Result Settings SettingsFault) (fault : Option Set
 is-settings-fault answer None h f e = absurd (cc)
 is-settings-fault answer (Some g) h f e = let same : g ≡ f = cc in h ∙ ap (λ x. Err x) same
 
-pub settings-stop : (command : Command) (old new : FilesSeen) (text : List ℕ) (next : Settings → Walk) (fault : Option SettingsFault) (stop : Stop) → Passed old (walk_of command) (test Settings (settings_without_library_in text) next) → IsSettingsFault (settings_without_library_of text) fault → stop_answer stop ≡ fault_answer SettingsFault bad_settings fault → Stops command old stop new
+pub settings-stop : (command : Command) (old new : FilesSeen) (text : List ℕ) (next : Settings → Walk) (fault : Option SettingsFault) (stop : Stop) → Passed old (walk_of command) (test Settings (settings_in text) next) → IsSettingsFault (settings_of_bytes text) fault → stop_answer stop ≡ fault_answer SettingsFault bad_settings fault → Stops command old stop new
 settings-stop command old new text next fault stop p h =
-    fault-stops command old new Settings SettingsFault (settings_without_library_in text) next bad_settings fault stop p (λ f e. (f, is-settings-fault (settings_without_library_of text) fault h f e, refl)) (λ f. tt)
+    fault-stops command old new Settings SettingsFault (settings_in text) next bad_settings fault stop p (λ f e. (f, is-settings-fault (settings_of_bytes text) fault h f e, refl)) (λ f. tt)
 
 -- a load
 long-step : (contents : Contents) (name : List ℕ) (limit : ℕ) (next : List ℕ → Walk) (found : Option (List ℕ)) → contents name ≡ found → IsSomeAnd found (λ bytes. limit < length bytes) → ComesTo (load name limit next) contents (refuses (file_too_long name))

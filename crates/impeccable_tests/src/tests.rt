@@ -495,6 +495,10 @@ fn codes_are_reported(rt: HostRuntime) -> Result<(), Fail> {
             "mode = \"correct\"\nbound = 2\ncheck = [\"111100\", \"001111\"]\n",
             "code 8 2\ndistance 5\nword 10\ndetects 4\ncorrects 2\n",
         ),
+        (
+            "mode = \"detect\"\nbound = 3\ncheck = [\"0111\", \"1011\", \"1101\", \"1110\"]\n\n[sbox.present]\ninputs = 4\noutputs = 4\nvalues = [12, 5, 6, 11, 9, 0, 10, 13, 3, 14, 15, 8, 4, 7, 1, 2]\n\n[linear.mix]\nrows = [\"110\", \"011\"]\n",
+            "code 8 4\ndistance 4\nword 1000\ndetects 3\ncorrects 1\n",
+        ),
     ];
     for (text, report) in cases {
         let mut files = held(
@@ -531,8 +535,12 @@ fn settings_are_refused(rt: HostRuntime) -> Result<(), Fail> {
             "S4 unknown key speed",
         ),
         (
-            "mode = \"detect\"\nbound = 1\ncheck = [\"1\"]\n[sbox]\n",
-            "S4 unknown key sbox",
+            "mode = \"detect\"\nbound = 1\ncheck = [\"1\"]\nsbox = 3\n",
+            "S3 bad value sbox",
+        ),
+        (
+            "mode = \"detect\"\nbound = 1\ncheck = [\"1\"]\n[linear.\"a mix\"]\nrows = [\"110\", \"02\"]\n",
+            "S3 bad value linear.a\\x20mix.rows",
         ),
         (
             "mode = \"detect\"\nbound = 1\ncheck = [\"1\", \"11\"]\n",

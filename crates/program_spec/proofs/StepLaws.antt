@@ -5,7 +5,7 @@ use Rattle.netlist_spec.specs.ReadFaults.{ReadFault, read_fault}
 use Rattle.netlist_spec.specs.Ordered.{order_fault}
 use Rattle.netlist_spec.proofs.OneReading.{one_reading}
 use Rattle.netlist_spec.proofs.NoFault.{reads_no_fault}
-use Rattle.guard_spec.specs.SettingsFile.{settings_without_library_of}
+use Rattle.guard_spec.specs.SettingsFile.{settings_of_bytes}
 use Rattle.program_spec.specs.Commands.{Command, flat, code}
 use Rattle.program_spec.specs.Refusals.{Refusal, unreadable, bad_settings, out_of_order}
 use Rattle.program_spec.specs.Walk.{Contents, Verdict, refused, passes, IsTest, HasTests}
@@ -63,7 +63,7 @@ order_test file =
 
 pub has_tests : (command : Command) → HasTests (walk_of command)
 has_tests (flat netlist) = λ bytes. (reading_test bytes, λ file. (readiness_test file, λ ready. tt))
-has_tests (code settings) = λ text. (gives_test _ _ (settings_without_library_of text) bad_settings, λ s. tt)
+has_tests (code settings) = λ text. (gives_test _ _ (settings_of_bytes text) bad_settings, λ s. tt)
 
 -- What a command may write is of one kind.
 pub one_kind : (command : Command) (contents : Contents) (text other : List ℕ) → IsDoneText command contents text → IsFoundText command contents other → ⊥

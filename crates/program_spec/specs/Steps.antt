@@ -14,7 +14,7 @@ use Rattle.netlist_spec.specs.FlatReady.{IsFlatReady}
 use Rattle.guard_spec.specs.Codes.{needed_distance, IsDistance}
 use Rattle.guard_spec.specs.Words.{Settings, Layout, IsLayout, layout_fault}
 use Rattle.guard_spec.specs.Plain.{IsPlain}
-use Rattle.guard_spec.specs.SettingsFile.{settings_of_bytes, settings_without_library_of}
+use Rattle.guard_spec.specs.SettingsFile.{settings_of_bytes}
 use Rattle.stimulus_spec.specs.Stimulus.{stimulus_of, script_of}
 use Rattle.program_spec.specs.Refusals.{Refusal, not_yet, unreadable, bad_settings, too_small, unsound, bad_layout, guard_too_large, out_of_order, bad_stimulus, bad_script_line}
 use Rattle.program_spec.specs.Walk.{Test}
@@ -61,10 +61,6 @@ soundness file library =
 
 abbrev pub settings_in : List ℕ → Test Settings
 settings_in bytes = gives _ _ (settings_of_bytes bytes) bad_settings
-
--- The same, until tables and layers are read.
-abbrev pub settings_without_library_in : List ℕ → Test Settings
-settings_without_library_in bytes = gives _ _ (settings_without_library_of bytes) bad_settings
 
 -- The distance is at least what the mode and the bound ask for.
 abbrev pub strength : Settings → Test Nothing

@@ -4,11 +4,11 @@ use Rattle.netlist_spec.specs.Netlist.{Model, File}
 use Rattle.netlist_spec.specs.Covers.{empty_library}
 use Rattle.netlist_spec.specs.WrittenText.{IsFlatText}
 use Rattle.guard_spec.specs.Words.{Settings, Layout}
-use Rattle.guard_spec.specs.SettingsFile.{settings_without_library_of}
+use Rattle.guard_spec.specs.SettingsFile.{settings_of_bytes}
 use Rattle.program_spec.specs.Printed.{IsReport}
 use Rattle.program_spec.specs.Commands.{Command, flat, code, netlist_limit, other_limit}
 use Rattle.program_spec.specs.Walk.{Contents, Verdict, passes, Walk, end, load, test, ComesTo}
-use Rattle.program_spec.specs.Steps.{reading, readiness, soundness, settings_in, settings_without_library_in, strength, main_of, words_of, smallness, order_of, stimulus_in, script_in}
+use Rattle.program_spec.specs.Steps.{reading, readiness, soundness, settings_in, strength, main_of, words_of, smallness, order_of, stimulus_in, script_in}
 
 -- ---- steps that several commands share
 
@@ -32,7 +32,7 @@ guard_walk settings netlist next =
 
 abbrev pub walk_of : Command → Walk
 walk_of (flat netlist) = load_netlist netlist (λ file. test _ (readiness file) (λ ready. end))
-walk_of (code settings) = load settings other_limit (λ text. test _ (settings_without_library_in text) (λ s. end))
+walk_of (code settings) = load settings other_limit (λ text. test _ (settings_in text) (λ s. end))
 
 -- of `sim`, of `audit`, and of `campaign`, which begins as `guard`
 abbrev pub sim_walk : List ℕ → List ℕ → List ℕ → Walk
@@ -63,7 +63,7 @@ IsAccepted contents settings netlist = ComesTo (guard_walk settings netlist (λ 
 -- The report on the code of the settings.
 pub record IsReportText (bytes text : List ℕ) : Type 0 where
   pub s : Settings
-  pub is_settings : settings_without_library_of bytes ≡ Ok s
+  pub is_settings : settings_of_bytes bytes ≡ Ok s
   pub is_report : IsReport s.code text
 
 -- A text that the command may write over these contents, where its verdict passes and it finds nothing.
