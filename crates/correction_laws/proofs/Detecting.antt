@@ -14,7 +14,9 @@ use Rattle.cone_split.proofs.Sizes.{size_costs}
 use Rattle.predictor.specs.Columns.{column_roots}
 use Rattle.predictor.proofs.Checks.{chosen_roots}
 use Rattle.predictor.proofs.Costs.{zip_chosen, chosen_cost, zip_same_length}
-use Rattle.guard_laws.specs.Rail.{WordNets, IsRail, state_nets, output_nets_of, watched_words}
+use Rattle.gate_net.specs.Words.{WordNets}
+use Rattle.alarm_rails.specs.Rail.{IsRail}
+use Rattle.guard_laws.specs.Watched.{state_nets, output_nets_of, watched_words}
 use Rattle.correction_laws.specs.Few.{NetCost}
 use Rattle.std.proofs.lemmas.List.FromFn.{length-range_with_len}
 

@@ -7,7 +7,7 @@ use Rattle.guard_spec.specs.Plain.{corrector_cost}
 use Rattle.netlist_spec.specs.GateRanges.{Region}
 use Rattle.gate_net.specs.GateNet.{net_count}
 use Rattle.cone_split.specs.Ranges.{IsAppended, ReadsAlone}
-use Rattle.guard_laws.specs.Rail.{WordNets, nets_of}
+use Rattle.gate_net.specs.Words.{WordNets, nets_of}
 
 -- What is appended for the correction of a word within t: one range that reads the word and itself, and a net for each data
 -- place. Where the word is at most t places apart from a codeword, these nets have its data, in each valuation in which the

@@ -13,7 +13,9 @@ use Rattle.gate_net.specs.GateNet.{net_count}
 use Rattle.gate_net.proofs.Ranges.{front}
 use Rattle.cone_split.proofs.Ranges.{alone_longer, all_lead_longer}
 use Rattle.guard_laws.specs.Places.{latches_of_words}
-use Rattle.guard_laws.specs.Rail.{WordNets, nets_of, SomeIsNone, IsRail, state_nets, output_nets_of, watched_words}
+use Rattle.gate_net.specs.Words.{WordNets, nets_of}
+use Rattle.alarm_rails.specs.Rail.{SomeIsNone, IsRail}
+use Rattle.guard_laws.specs.Watched.{state_nets, output_nets_of, watched_words}
 use Rattle.guard_laws.specs.Rows.{IsRailRange}
 use Rattle.std.proofs.lemmas.List.Sums.{sum_by-cons}
 use Rattle.netlist_spec.specs.CellBits.{Bit}

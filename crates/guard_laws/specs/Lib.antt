@@ -4,5 +4,5 @@ pub mod Texts
 pub mod Rows
 pub mod Copies
 pub mod Places
-pub mod Rail
+pub mod Watched
 pub mod Within

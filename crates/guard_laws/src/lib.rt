@@ -12,7 +12,9 @@ ghost use Rattle.guard_spec.specs.Rails.{RailsTell, SomeNoCodeword, SomeFarWord}
 ghost use Rattle.guard_spec.specs.Regions.{AreSeparate, CoversGates, Guarded};
 ghost use Rattle.containment.specs.RegionAnswers.{RailsAnswer, RegionsAnswer, FarRailsAnswer};
 ghost use Rattle.guard_laws.specs.Rows.{IsMadeOfRanges, IsRailRange, IsRangeOf, StandForLeaves};
-ghost use Rattle.guard_laws.specs.Rail.{IsRail, SomeIsNone, nets_of, watched_words};
+ghost use Rattle.gate_net.specs.Words.{nets_of};
+ghost use Rattle.alarm_rails.specs.Rail.{IsRail, SomeIsNone};
+ghost use Rattle.guard_laws.specs.Watched.{watched_words};
 ghost use Rattle.guard_laws.specs.Copies.{IsBitCheck, IsBitCopy, range_of};
 ghost use Rattle.netlist_spec.specs.CellBits.{Bit};
 ghost use Rattle.guard_spec.specs.Words.{IsPartition, Layout, Settings};

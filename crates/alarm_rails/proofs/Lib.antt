@@ -1,0 +1,6 @@
+pub mod Sums
+pub mod Alarms
+pub mod Counts
+pub mod Bits
+pub mod Ranges
+pub mod Steps
