@@ -1,14 +1,14 @@
 -- What tables tell of lines.
-use Rattle.std.proofs.Common.{◌≡◌, refl, sym, ◌∙◌, ap, ap₂, subst, ℕ, suc, ◌+◌, ◌<◌, ◌≤◌, List, [], ◌∷◌, ◌++◌, map, filter_map, length, Bool, true, false, ◌||◌, ◌&&◌, not, cond, get_or, Option, None, Some, append-nil, append_assoc, arith}
-use Rattle.std.specs.List.{AllByRecursion, flat_map, list_any, list_all, cons_option}
+use Rattle.std.proofs.Common.{◌≡◌, refl, sym, ◌∙◌, ap, ap₂, subst, ℕ, ◌≤◌, List, [], ◌∷◌, ◌++◌, map, filter_map, length, Bool, true, false, ◌||◌, ◌&&◌, not, cond, get_or, Option, None, Some, append-nil, append_assoc, arith}
+use Rattle.std.specs.List.{flat_map, list_all, cons_option}
 use Rattle.std.specs.Option.{option_or}
 use Rattle.std.proofs.lemmas.Grind.{flat_map-append}
-use Rattle.netlist_spec.specs.Netlist.{Name, stands_in, Cover, Clocking, Bind, Statement, names, latch, subckt, Located, Model, File}
+use Rattle.netlist_spec.specs.Netlist.{Name, stands_in, Cover, Clocking, Bind, Statement, names, latch, subckt, Model}
 use Rattle.netlist_spec.specs.Reads.{control_nets}
 use Rattle.netlist_spec.specs.Placed.{port_names}
-use Rattle.netlist_spec.specs.Models.{Latch, as_latch, latches_of, latch_outputs, clock_nets, data_inputs}
+use Rattle.netlist_spec.specs.Models.{Latch, as_latch, latch_outputs, data_inputs}
 use Rattle.netlist_spec.specs.FileOrder.{Declared, an_input, an_output, a_clock, a_statement, Item, first_answer, declared_input, declared_output, declared_clock, inputs_among, outputs_among, clocks_among}
-use Rattle.netlist_spec.specs.Ordered.{OrderFault, unordered, has_subckt, item_fault, cell_nets, cells_among, gates_among, declared_cell, declared_gate, driven_by, is_at_fault, order_fault, fault_of_models, second_model_fault, IsOrdered}
+use Rattle.netlist_spec.specs.Ordered.{OrderFault, unordered, cell_nets, cells_among, gates_among, declared_cell, declared_gate, driven_by, is_at_fault}
 use Rattle.imp_text.proofs.NamesLemmas.{stands_in-append}
 use Rattle.blif_read.specs.declared.file.Port.{Port as ReadPort}
 use Rattle.blif_read.specs.declared.file.Located.{Located as ReadLocated}

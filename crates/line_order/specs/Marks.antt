@@ -1,6 +1,6 @@
 -- Which of a model's names are marked, by their numbers.
 use Rattle.std.specs.Prelude.{◌≡◌, ℕ, ◌<◌, Bool, false, List, [], ◌∷◌, length, slice_index_or, IsTrue}
-use Rattle.netlist_spec.specs.Netlist.{Name, stands_in, are_distinct, Statement, names, latch, subckt}
+use Rattle.netlist_spec.specs.Netlist.{Name, stands_in, are_distinct, Statement, latch}
 use Rattle.netlist_spec.specs.Reads.{control_nets}
 use Rattle.netlist_spec.specs.Ordered.{driven_by}
 

@@ -1,8 +1,8 @@
 -- The lines of a model as four lists, each in the order of its lines, that are merged.
-use Rattle.std.specs.Prelude.{◌≡◌, ℕ, ◌<◌, ◌≤◌, List, [], ◌∷◌, ◌++◌, length, map, drop, slice_index_or, ⊤}
+use Rattle.std.specs.Prelude.{ℕ, ◌<◌, ◌≤◌, List, [], ◌∷◌, ◌++◌, length, map, drop, slice_index_or, ⊤}
 use Rattle.std.specs.List.{AllByRecursion}
-use Rattle.netlist_spec.specs.Netlist.{Name, Statement, subckt, Port, Located, Model}
-use Rattle.netlist_spec.specs.FileOrder.{Declared, an_input, an_output, a_clock, a_statement, Item, port_items, statement_items, by_line}
+use Rattle.netlist_spec.specs.Netlist.{Model}
+use Rattle.netlist_spec.specs.FileOrder.{an_input, an_output, a_clock, Item, port_items, statement_items, by_line}
 use Rattle.blif_read.specs.declared.file.Model.{Model as ReadModel}
 use Rattle.line_order.specs.declared.merge.Place.{Place}
 use Rattle.line_order.specs.declared.merge.Place.TheVariants.{Input, Output, Clock, Statement as AStatement}

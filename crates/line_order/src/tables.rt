@@ -128,9 +128,10 @@ impl Tables {
             Statement::Names { ins, out, .. } => {
                 unordered_if(self.is_wrong_gate(ins, *out), s.line)
             }
-            Statement::Latch {
-                d, q, clocking, ..
-            } => unordered_if(self.is_wrong_latch(*d, *q, *clocking), s.line),
+            Statement::Latch { d, q, clocking, .. } => unordered_if(
+                self.is_wrong_latch(*d, *q, *clocking),
+                s.line,
+            ),
             Statement::Subckt { .. } => Some(OrderFault::HasSubckt(s.line)),
         }
     }

@@ -1,4 +1,4 @@
-use Rattle.std.proofs.Common.{◌≡◌, ◌∙◌, ◌++◌, ◌∷◌, [], sym, ap}
+use Rattle.std.proofs.Common.{◌∙◌, ◌++◌, ◌∷◌, [], sym, ap}
 use Rattle.netlist_spec.specs.FileOrder.{first_answer}
 use Rattle.netlist_spec.specs.Ordered.{item_fault}
 use Rattle.blif_read.specs.View.{model_of}

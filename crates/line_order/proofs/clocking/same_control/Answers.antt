@@ -1,4 +1,4 @@
-use Rattle.std.proofs.Common.{◌∙◌, subst, All, Option, arith}
+use Rattle.std.proofs.Common.{subst, All, Option, arith}
 use Rattle.imp_text.specs.declared.names.NameId.{NameId}
 use Rattle.blif_read.specs.Ids.{IsIdOf}
 use Rattle.line_order.specs.Tables.{control_of}

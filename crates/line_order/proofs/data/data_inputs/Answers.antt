@@ -1,4 +1,4 @@
-use Rattle.std.proofs.Common.{◌≡◌, ◌≤◌, ◌++◌, ◌∷◌, [], cond, get_or, ◌∙◌, sym, ap, subst, arith, List, Bool, filter, length, map, not, All}
+use Rattle.std.proofs.Common.{◌++◌, ◌∷◌, [], cond, get_or, ◌∙◌, sym, ap, subst, arith, List, Bool, filter, length, map, not, All}
 use Rattle.std.proofs.lemmas.List.{take_all}
 use Rattle.netlist_spec.specs.Netlist.{Name, stands_in}
 use Rattle.netlist_spec.specs.Models.{clock_nets}

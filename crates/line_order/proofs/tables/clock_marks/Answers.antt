@@ -1,4 +1,4 @@
-use Rattle.std.proofs.Common.{◌≡◌, ◌∙◌, ◌++◌, ap, ap₂, List, [], map}
+use Rattle.std.proofs.Common.{◌∙◌, ◌++◌, ap, ap₂, List, [], map}
 use Rattle.std.specs.List.{flat_map}
 use Rattle.netlist_spec.specs.Netlist.{Name}
 use Rattle.netlist_spec.specs.Models.{clock_nets}

@@ -1,4 +1,4 @@
-use Rattle.std.proofs.Common.{◌≡◌, ◌∙◌, ap, [], filter, map, not}
+use Rattle.std.proofs.Common.{◌∙◌, ap, [], filter, map, not}
 use Rattle.netlist_spec.specs.Netlist.{Name, stands_in}
 use Rattle.netlist_spec.specs.Models.{clock_nets, data_inputs}
 use Rattle.blif_read.specs.declared.file.Port.{Port}

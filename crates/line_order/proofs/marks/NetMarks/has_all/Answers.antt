@@ -1,5 +1,4 @@
-use Rattle.std.proofs.Common.{◌∙◌, sym, ◌≡◌, true, false, List, Bool}
-use Rattle.std.specs.List.{list_all}
+use Rattle.std.proofs.Common.{◌∙◌, sym, Bool}
 use Rattle.std.proofs.lemmas.List.{take_all}
 use Rattle.netlist_spec.specs.Netlist.{Name, stands_in}
 use Rattle.imp_text.specs.declared.names.NameId.{NameId}

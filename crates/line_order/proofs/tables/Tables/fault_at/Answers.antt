@@ -1,4 +1,4 @@
-use Rattle.std.proofs.Common.{◌≡◌, ◌∙◌, sym, ap, subst}
+use Rattle.std.proofs.Common.{◌∙◌, sym, ap, subst}
 use Rattle.netlist_spec.specs.FileOrder.{an_input, an_output, a_clock}
 use Rattle.netlist_spec.specs.Ordered.{item_fault}
 use Rattle.blif_read.specs.View.{model_of}

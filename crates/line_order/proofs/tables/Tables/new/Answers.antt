@@ -1,4 +1,4 @@
-use Rattle.std.proofs.Common.{◌≡◌, ◌∙◌, ◌++◌, sym, ap, ap₂, subst, List, Bool, [], map, append-nil}
+use Rattle.std.proofs.Common.{◌∙◌, ◌++◌, sym, ap, ap₂, subst, List, Bool, [], map, append-nil}
 use Rattle.std.specs.List.{flat_map}
 use Rattle.netlist_spec.specs.Netlist.{Name}
 use Rattle.netlist_spec.specs.Placed.{port_names}

@@ -1,4 +1,4 @@
-use Rattle.std.proofs.Common.{◌≡◌, ◌∙◌, ◌++◌, ◌∷◌, [], sym, ap, subst}
+use Rattle.std.proofs.Common.{◌∙◌, ◌++◌, ◌∷◌, [], sym, ap, subst}
 use Rattle.netlist_spec.specs.FileOrder.{an_input, an_output, a_clock, Item}
 use Rattle.blif_read.specs.View.{name_at, model_of}
 use Rattle.line_order.specs.Merge.{IsPlace, item_at}

@@ -1,4 +1,4 @@
-use Rattle.line_order.proofs.TableLemmas.{pass_gate, pass_latch, pass_subckt}
+use Rattle.line_order.proofs.TableLemmas.{pass_gate, pass_latch}
 use Rattle.line_order.proofs.tables.Tables.pass_statement.Goals as goal
 
 pub returns-in-Names : goal.returns-in-Names
