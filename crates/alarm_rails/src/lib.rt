@@ -2,7 +2,5 @@
 #![tactic(auto)]
 
 mod rails;
-#[cfg(test)]
-mod tests;
 
 pub use rails::rail;

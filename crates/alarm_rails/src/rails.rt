@@ -35,7 +35,7 @@ pub fn rail(words: &[WordNets], code: &Code, dst: &mut GateNet) -> Result<NetId,
     Ok(alarm)
 }
 
-/// Appends the gates for a word behind those of the alarm so far, and answers the alarm with them.
+// Appends the gates for a word behind those of the alarm so far, and answers the alarm with them.
 fn add_word(
     word: &WordNets,
     code: &Code,
@@ -67,7 +67,7 @@ fn add_word(
     Ok(alarm)
 }
 
-/// Appends the sum of a check place and of the places whose row has a 1 in column j, and answers the net that has it.
+// Appends the sum of a check place and of the places whose row has a 1 in column j, and answers the net that has it.
 fn add_sum(
     places: &[NetId],
     code: &Code,

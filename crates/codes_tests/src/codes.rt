@@ -1,3 +1,4 @@
+// Codewords, syndromes and shapes of small codes.
 use block_code::{Code, CodeFault, Word, weight};
 
 // The rows are 011 and 101, column 0 first.

@@ -1,3 +1,4 @@
+// Distances of known codes, and lists of error patterns.
 use block_code::{Code, CodeFault, Word};
 use distance::{distance, patterns};
 use std::test::Fail;

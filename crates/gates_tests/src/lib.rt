@@ -14,4 +14,6 @@ mod joins;
 #[cfg(test)]
 mod layers;
 #[cfg(test)]
+mod rails;
+#[cfg(test)]
 mod tables;

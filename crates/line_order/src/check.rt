@@ -15,8 +15,8 @@ use blif_read::{File, Model};
 use std::alloc::Global;
 
 /// Tests whether a file is in order: it has one model without `.subckt`, no net is driven twice, each `.names` reads data inputs,
-/// latches and earlier `.names` alone, each output and each D has a source, and all latches are clocked alike. Where it is not, the
-/// first line at fault is answered.
+/// latches and earlier `.names` alone, each output and each D has a source, and all latches are clocked alike, by a control that
+/// is `NIL` or declared. Where it is not, the first line at fault is answered.
 pub fn check_order(alloc: Global, file: &File) -> Result<(), OrderFault>
     requires ids { All HasIds file.now.models.items }
     requires is_file { IsFile (file_of file.now) }

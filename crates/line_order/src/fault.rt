@@ -8,8 +8,8 @@ use std::alloc::AllocError;
 /// The first line at fault, by its number from 1.
 #[derive(Debug, Drop)]
 pub enum OrderFault {
-    /// The line drives a net again, reads a later net, passes on a net without a source or is clocked otherwise, or it is a second
-    /// `.model`.
+    /// The line drives a net again, reads a net that no earlier line gives, passes on a net without a source or is clocked
+    /// otherwise, or it is a second `.model`.
     Unordered(u32),
     /// The line is a `.subckt`.
     HasSubckt(u32),

@@ -21,11 +21,11 @@ use blif_read::{Clocking, Located, Model, Statement};
 use imp_text::NameId;
 use std::alloc::{AllocError, Global};
 
-// Marks of the nets of a model. Those of the first four lists are of the whole model, and but for `sources` and
-// `declared` each list grows with the lines that are passed.
+// Marks of the nets of a model. `sources` and `declared` are of the whole model; `known` begins with what any line may
+// read, and it and the last four grow with the lines that are passed.
 #[derive(Drop)]
 pub(crate) struct Tables {
-    // what drives something without being a cell, or is shown by a latch, or is driven by a `.names` so far
+    // data inputs, outputs of latches, and outputs of the `.names` so far
     known: NetMarks,
     // data inputs and cells
     sources: NetMarks,

@@ -4,7 +4,7 @@ ghost use Rattle.std.specs.List.{AllByRecursion, flat_map};
 ghost use Rattle.gate_net.specs.Words.{nets_of, word_nets};
 ghost use Rattle.alarm_rails.specs.Rail.{FitsCode, rail_cells};
 
-use crate::rail;
+use alarm_rails::rail;
 use arrayvec::{ArrayVec, CapacityError};
 use block_code::Code;
 use gate_net::{GateNet, NetId, WordNets};
