@@ -7,4 +7,4 @@ pub mod Sizes
 pub mod Sums
 pub mod Values
 pub mod Whole
-mod AllCopied
+pub mod AllCopied

@@ -4,11 +4,8 @@ pub mod Ranges
 pub mod Steps
 pub mod Covered
 pub mod Costs
-pub mod Whole
 pub mod Guard
 pub mod Few
 pub mod Detecting
 pub mod Room
-pub mod Decoding
-pub mod Patterns
 pub mod Writes

@@ -12,7 +12,7 @@ use Rattle.gate_net.proofs.Ranges.{front}
 use Rattle.cone_split.proofs.Ranges.{get_cases}
 use Rattle.guard_laws.specs.Places.{latches_of_words}
 use Rattle.guard_laws.specs.Copies.{range_of}
-use Rattle.correction_laws.specs.Corrected.{IsCorrected}
+use Rattle.corrector.specs.Corrected.{IsCorrectorRange}
 use Rattle.correction_laws.specs.Joined.{Corrector, IsCorrector, AreCorrectors}
 use Rattle.correction_laws.proofs.Lists.{range_below}
 use Rattle.std.proofs.lemmas.List.FromFn.{length-range_with_len}
@@ -27,7 +27,7 @@ reads_shorter net more n k h r =
 
 -- What was appended for a word is its corrector.
 pub appended : (code : Code) (t at : ℕ) (w : List ℕ) (old new : GateList) (nets : List ℕ) → at + (length w + code.columns) ≤ new.leaves
-    → IsCorrected code t (record { places = range_with_len at (length w); checks = range_with_len (at + length w) code.columns }) old new nets
+    → IsCorrectorRange code t (record { places = range_with_len at (length w); checks = range_with_len (at + length w) code.columns }) old new nets
     → IsCorrector new code t at (record { word = w; nets = nets; first = net_count old; end = net_count new; serves = true })
 appended code t at w old new nets room is = record {
   count = is.count ∙ long;

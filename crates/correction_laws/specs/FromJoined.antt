@@ -8,7 +8,7 @@ use Rattle.netlist_spec.specs.CellBits.{Bit}
 use Rattle.cone_split.specs.Ranges.{IsCopy}
 use Rattle.predictor.specs.Columns.{IsCheckBit, column_roots}
 use Rattle.guard_laws.specs.Rows.{right_bit}
-use Rattle.correction_laws.specs.Whole.{StandsFor}
+use Rattle.cone_split.specs.Whole.{StandsFor}
 use Rattle.correction_laws.specs.Joined.{Corrector, IsServed}
 
 -- Net m of the joined list stands for net x of the source.

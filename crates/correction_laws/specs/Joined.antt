@@ -8,7 +8,7 @@ use Rattle.guard_spec.specs.Words.{Layout}
 use Rattle.guard_spec.specs.Plain.{corrector_cost}
 use Rattle.netlist_spec.specs.Cones.{IsGateReached}
 use Rattle.guard_laws.specs.Places.{latches_of_words}
-use Rattle.correction_laws.specs.Whole.{IsCopyOfAll}
+use Rattle.cone_split.specs.Whole.{IsCopyOfAll}
 
 -- A state word, the nets that stand for its data places, and the range of its corrector. One that does not serve has an
 -- empty range, and any nets.

@@ -1,14 +1,13 @@
 //! From what correctors and copies promise to a guard that corrects.
 #![tactic(auto)]
 
-ghost use Rattle.std.specs.Prelude.{◌≡◌, ℕ, ◌+◌, ◌*◌, ◌<◌, ◌≤◌, ◌++◌, Bool, true, false, AllPairs, Contains, IsTrue, List, [], ◌∷◌, length, map, slice_get, slice_index_or, Some};
+ghost use Rattle.std.specs.Prelude.{◌≡◌, ℕ, ◌+◌, ◌<◌, ◌≤◌, ◌++◌, Bool, true, false, AllPairs, Contains, IsTrue, List, [], ◌∷◌, length, map, slice_get, Some};
 ghost use Rattle.std.specs.List.{AllZip, range_with_len};
 ghost use Rattle.netlist_spec.specs.CellBits.{Bit, stands_before};
-ghost use Rattle.guard_spec.specs.Codes.{ArePatterns, Code, IsCode, IsDistance, Mode, Pattern, apart, correct, data_places, detect, encoded, syndrome_of};
+ghost use Rattle.guard_spec.specs.Codes.{Code, Mode, correct, detect};
 ghost use Rattle.guard_spec.specs.Count.{IsNear, StateWordsAre};
-ghost use Rattle.netlist_spec.specs.Covers.{differ};
-ghost use Rattle.netlist_spec.specs.Gates.{AnswersWithin, GateForm, GateList, IsEvaluation, IsGateList, IsMachine, Machine};
-ghost use Rattle.guard_spec.specs.Plain.{IsMachineSizeWith, column_cost, corrector_cost, pattern_count, rail_cost};
+ghost use Rattle.netlist_spec.specs.Gates.{AnswersWithin, GateForm, GateList, IsEvaluation, IsMachine, Machine};
+ghost use Rattle.guard_spec.specs.Plain.{IsMachineSizeWith, column_cost, corrector_cost, rail_cost};
 ghost use Rattle.netlist_spec.specs.Cones.{marked_sum};
 ghost use Rattle.guard_spec.specs.Regions.{Guarded};
 ghost use Rattle.netlist_spec.specs.GateRanges.{Region};
@@ -17,7 +16,6 @@ ghost use Rattle.guard_spec.specs.Rails.{SomeNoCodeword};
 ghost use Rattle.guard_spec.specs.Words.{IsPartition, Layout, Words, codewords};
 ghost use Rattle.gate_net.specs.GateNet.{net_count};
 ghost use Rattle.cone_split.specs.Cones.{IsConeSize};
-ghost use Rattle.cone_split.specs.Copies.{AreCopied};
 ghost use Rattle.cone_split.specs.Ranges.{IsCopy};
 ghost use Rattle.predictor.specs.Columns.{column_roots};
 ghost use Rattle.guard_laws.specs.Copies.{range_of};
@@ -26,13 +24,11 @@ ghost use Rattle.guard_laws.specs.Promised.{IsGuardOf, cell_count};
 ghost use Rattle.alarm_rails.specs.Rail.{IsRail};
 ghost use Rattle.guard_laws.specs.Watched.{watched_words};
 ghost use Rattle.guard_laws.specs.Rows.{AreInRow};
-ghost use Rattle.correction_laws.specs.Corrected.{IsCorrected};
-ghost use Rattle.correction_laws.specs.Decoding.{found_error};
+ghost use Rattle.corrector.specs.Corrected.{IsCorrectorRange};
 ghost use Rattle.correction_laws.specs.Few.{IsFew, NetCost};
 ghost use Rattle.correction_laws.specs.FromJoined.{IsJoinedCheck, IsJoinedCopy, IsOver};
 ghost use Rattle.correction_laws.specs.Joined.{AreCorrectedNets, AreCorrectors, Corrector, IsCorrector, IsJoined, IsServed};
 ghost use Rattle.correction_laws.specs.Room.{AreNeeded};
-ghost use Rattle.correction_laws.specs.Whole.{IsCopyOfAll};
 ghost use Rattle.guard_laws.specs.Within.{IsMadeWithin, IsRangeWithin};
 
 /// Where the places that are shown are near the codewords of a state, a net of the joined list has the bit that the net of
@@ -69,7 +65,7 @@ pub fn joined_copies_are_ranges()
 pub fn correctors_are_joined()
     ensures appended { (code : Code) (t at : ℕ) (w : List ℕ) (old new : GateList) (nets : List ℕ)
         → at + (length w + code.columns) ≤ new.leaves
-        → IsCorrected code t (record { places = range_with_len at (length w); checks = range_with_len (at + length w) code.columns }) old new nets
+        → IsCorrectorRange code t (record { places = range_with_len at (length w); checks = range_with_len (at + length w) code.columns }) old new nets
         → IsCorrector new code t at (record { word = w; nets = nets; first = net_count old; end = net_count new; serves = true }) }
     ensures left_out { (net : GateList) (code : Code) (t at n : ℕ) (w nets : List ℕ)
         → length nets ≡ length w → ((k : ℕ) → Contains nets k → k < net.leaves)
@@ -112,14 +108,6 @@ pub fn joined_copies_cost_no_more()
         → IsConeSize joined (column_roots code j ms) size → size + length (column_roots code j ms) + 1 ≤ column_cost code costs j }
 {}
 
-/// The gates of a list copied over given nets for its leaves, as `append_cells` of `cone_split` copies cells, are a copy of all.
-pub fn copied_gates_are_a_copy_of_all()
-    ensures { (src : GateList) (leaf : List ℕ) (old : GateList) (hs : List GateForm)
-        → IsGateList src → length leaf ≡ src.leaves
-        → AreCopied src leaf (range_with_len src.leaves (length src.gates)) (net_count old) (range_with_len src.leaves (length src.gates)) hs
-        → IsCopyOfAll src leaf (net_count old) (record old { gates = old.gates ++ hs }) }
-{}
-
 /// Such ranges, the inits and the size make what the builder of a guard promises, in either mode. The size may be said of each
 /// range alone.
 pub fn ranges_within_make_a_promised_guard()
@@ -144,17 +132,6 @@ pub fn needed_correctors_have_room()
         → marked_sum (λ w. corrector_cost code t (length w)) l.state marks ≤ n }
     ensures row { (net : GateList) (code : Code) (t at from : ℕ) (cs : List Corrector) (end : ℕ) → AreCorrectors net code t at from cs end
         → end ≤ from + marked_sum (λ w. corrector_cost code t (length w)) (map (λ c. c.word) cs) (map (λ c. c.serves) cs) }
-{}
-
-/// Where a word is within t of a codeword, each data bit of that codeword is the word's bit, turned if the pattern with the
-/// word's syndrome has an error there. So a corrector may compute the syndrome and look for patterns. There
-/// are as many patterns as its cost counts.
-pub fn patterns_tell_errors()
-    ensures decoded { (code : Code) (d t m : ℕ) (patterns : List Pattern) (z u : Bits)
-        → IsCode code → IsDistance code d → 2 * t < d → m ≤ data_places code → ArePatterns code m t patterns
-        → length u ≡ m → apart z (encoded code u) ≤ t → length z ≡ m + code.columns
-        → (i : ℕ) → i < m → slice_index_or u i false ≡ differ (slice_index_or z i false) (found_error patterns (syndrome_of code m z) i) }
-    ensures few { (code : Code) (m t : ℕ) (patterns : List Pattern) → ArePatterns code m t patterns → length patterns ≤ pattern_count code t m }
 {}
 
 /// In detection a copy, a check bit and a rail take no more than they cost.

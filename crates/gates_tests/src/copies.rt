@@ -4,7 +4,7 @@ ghost use Rattle.std.specs.List.{AllByRecursion};
 ghost use Rattle.gate_net.specs.Gate.{net_number};
 ghost use Rattle.gate_net.specs.GateNet.{net_count};
 
-use cone_split::{cones_have_one_size, copy_xor};
+use cone_split::{cones_have_one_size, copy_all, copy_xor};
 use gate_net::{Gate, GateNet, NetId, Op};
 use std::alloc::{AllocError, Global};
 use std::test::Fail;
@@ -102,5 +102,25 @@ fn a_leaf_is_copied_to_a_new_gate(rt: HostRuntime) -> Result<(), Fail> {
         assert_eq!(rt; found[s as usize], s & 4 != 0);
     }
     assert_eq!(rt; gates, 1);
+    Ok(())
+}
+
+#[test]
+fn all_gates_are_copied(rt: HostRuntime) -> Result<(), Fail> {
+    let src = counter(rt.alloc())?;
+    let mut dst = GateNet::new(rt.alloc(), 4)?;
+    dst.push(Gate::Const(true))?;
+    let leaf = [NetId(3), NetId(2), NetId(1), NetId(0)];
+    copy_all(rt.alloc(), &src, &leaf, &mut dst)?;
+    assert_eq!(rt; dst.len(), 11);
+    for s in 0..16u8 {
+        // The lowest bit at net 3, the leaf that stands for the counter's first one.
+        let state = [s & 8 != 0, s & 4 != 0, s & 2 != 0, s & 1 != 0];
+        let mut row = [false; 11];
+        dst.eval_into(&state, &mut row);
+        for (i, n) in [5, 6, 8, 10].iter().enumerate() {
+            assert_eq!(rt; row[*n], (s + 1) >> i & 1 == 1, "bit {i} in state {s}");
+        }
+    }
     Ok(())
 }

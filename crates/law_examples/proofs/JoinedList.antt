@@ -19,14 +19,14 @@ use Rattle.cone_split.proofs.Whole.{last_copies}
 use Rattle.predictor.specs.Columns.{column_roots}
 use Rattle.spec_examples.specs.Toggle.{toggle, thrice_code}
 use Rattle.spec_examples.proofs.Toggle.{or_answer}
-use Rattle.correction_laws.specs.Corrected.{IsCorrected}
-use Rattle.correction_laws.specs.Whole.{IsCopyOfAll}
+use Rattle.corrector.specs.Corrected.{IsCorrectorRange}
+use Rattle.cone_split.specs.Whole.{IsCopyOfAll}
 use Rattle.correction_laws.specs.Joined.{Corrector, IsJoined, IsServed}
 use Rattle.correction_laws.specs.FromJoined.{IsJoinedCopy, IsJoinedCheck}
 use Rattle.law_examples.specs.JoinedList.{three_latches, majority_list, majority, toggle_joined, stored_gates, shown_gates, behind}
 use Rattle.correction_laws.proofs.Lists.{range_below}
 use Rattle.correction_laws.proofs.Steps.{appended, corrector_stays}
-use Rattle.correction_laws.proofs.Whole.{whole_copy}
+use Rattle.cone_split.proofs.AllCopied.{whole_copy}
 use Rattle.spec_examples.proofs.Corrector.{thrice, majority_near}
 
 -- ---- the corrector
@@ -62,7 +62,7 @@ below_contains a (suc n) k low high = by_place (same_or a k) (λ h. below_contai
 joined_is_list : IsGateList toggle_joined
 joined_is_list = omega arith
 
-pub majority_corrects : IsCorrected thrice_code 1 (record { places = 0 ∷ []; checks = 1 ∷ 2 ∷ [] }) three_latches majority_list (6 ∷ [])
+pub majority_corrects : IsCorrectorRange thrice_code 1 (record { places = 0 ∷ []; checks = 1 ∷ 2 ∷ [] }) three_latches majority_list (6 ∷ [])
 majority_corrects = record {
   count = refl;
   known = λ n c. elim (contains_cases 6 n [] c) [ inl e ↦ inl (omega arith, omega arith) | inr d ↦ absurd (let h = d.1 in omega arith) ];

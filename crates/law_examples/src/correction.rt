@@ -15,7 +15,7 @@ ghost use Rattle.spec_examples.specs.Toggle.{thrice_code, toggle, toggle_correct
 ghost use Rattle.gate_net.specs.GateNet.{net_count};
 ghost use Rattle.guard_laws.specs.Promised.{IsGuardOf, cell_count};
 ghost use Rattle.guard_laws.specs.Texts.{IsGuardFrom};
-ghost use Rattle.correction_laws.specs.Corrected.{IsCorrected};
+ghost use Rattle.corrector.specs.Corrected.{IsCorrectorRange};
 ghost use Rattle.correction_laws.specs.FromJoined.{IsJoinedCheck, IsJoinedCopy};
 ghost use Rattle.correction_laws.specs.Joined.{IsJoined};
 ghost use Rattle.law_examples.specs.JoinedList.{behind, corrector_named, majority, majority_list, stored_gates, three_latches, thrice_settings, toggle_joined};
@@ -23,7 +23,7 @@ ghost use Rattle.guard_laws.specs.Within.{IsMadeWithin};
 
 /// The premises hold of the register that turns its bit, with the majority of three latches for a corrector.
 pub fn small_lists_are_joined()
-    ensures corrected { IsCorrected thrice_code 1 (record { places = 0 ∷ []; checks = 1 ∷ 2 ∷ [] }) three_latches majority_list (6 ∷ []) }
+    ensures corrected { IsCorrectorRange thrice_code 1 (record { places = 0 ∷ []; checks = 1 ∷ 2 ∷ [] }) three_latches majority_list (6 ∷ []) }
     ensures words { IsPartition (length toggle.latches) 1 inverter_layout.state × IsMachine toggle }
     ensures joined { IsJoined toggle thrice_code inverter_layout 1 toggle_joined (majority ∷ []) (6 ∷ []) 7 }
     ensures place { (gates : List GateForm) (last : ℕ) → net_count (behind (gates ++ stored_gates (3 + length gates))) ≡ last + 1

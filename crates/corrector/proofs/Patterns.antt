@@ -104,7 +104,7 @@ levels_have n a (suc t) i x low high c = by_level (same_or a i) (λ h. levels_ha
 
 -- ---- the patterns
 
-of_map : {A B : Type 0} (f : A → B) (xs : List A) (y : B) → Contains (map f xs) y → (x : A) × Contains xs x × (f x ≡ y)
+pub of_map : {A B : Type 0} (f : A → B) (xs : List A) (y : B) → Contains (map f xs) y → (x : A) × Contains xs x × (f x ≡ y)
 of_map f [] y c = absurd (let h = c.1 in omega arith)
 of_map f (x ∷ xs) y (zero, h, e) = (x, (0, omega arith, refl), e)
 of_map f (x ∷ xs) y (suc k, h, e) = let (z, (i, inside, same), g) = of_map f xs y (k, omega arith, e) in (z, (suc i, omega arith, same), g)

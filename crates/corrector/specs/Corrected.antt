@@ -6,13 +6,13 @@ use Rattle.guard_spec.specs.Codes.{Code, encoded, apart}
 use Rattle.guard_spec.specs.Plain.{corrector_cost}
 use Rattle.netlist_spec.specs.GateRanges.{Region}
 use Rattle.gate_net.specs.GateNet.{net_count}
-use Rattle.cone_split.specs.Ranges.{IsAppended, ReadsAlone}
 use Rattle.gate_net.specs.Words.{WordNets, nets_of}
+use Rattle.cone_split.specs.Ranges.{IsAppended, ReadsAlone}
 
 -- What is appended for the correction of a word within t: one range that reads the word and itself, and a net for each data
 -- place. Where the word is at most t places apart from a codeword, these nets have its data, in each valuation in which the
 -- gates of the range have their answers, whatever bits other nets have.
-pub record IsCorrected (code : Code) (t : ℕ) (word : WordNets) (old new : GateList) (nets : List ℕ) : Type 0 where
+pub record IsCorrectorRange (code : Code) (t : ℕ) (word : WordNets) (old new : GateList) (nets : List ℕ) : Type 0 where
   pub count : length nets ≡ length word.places
   pub known : (n : ℕ) → Contains nets n → ((net_count old ≤ n) × (n < net_count new)) ⊎ Contains (nets_of word) n
   pub grows : net_count old ≤ net_count new

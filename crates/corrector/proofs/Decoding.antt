@@ -1,12 +1,13 @@
 -- The patterns of few places tell the error of a word by its syndrome.
-use Rattle.std.proofs.Common.{◌≡◌, refl, sym, ◌∙◌, ap, ap₂, ℕ, zero, suc, ◌+◌, ◌*◌, ◌==◌, ◌&&◌, ◌<◌, ◌≤◌, List, [], ◌∷◌, length, map, take, drop, get_or, Bool, true, false, arith, Contains, length-take-le, eqb-true}
+use Rattle.std.proofs.Common.{◌≡◌, refl, sym, ◌∙◌, ap, ap₂, ℕ, zero, suc, ◌+◌, ◌*◌, ◌==◌, ◌&&◌, ◌<◌, ◌≤◌, List, [], ◌∷◌, length, take, drop, get_or, Bool, true, false, arith, length-take-le, eqb-true}
+use Rattle.std.specs.List.{list_any}
 use Rattle.std.proofs.lemmas.List.{get_or_append_left}
 use Rattle.netlist_spec.specs.Covers.{differ}
 use Rattle.netlist_spec.specs.SourceRun.{Bits}
 use Rattle.guard_spec.specs.Codes.{Code, data_places, IsCode, sum_of, checks_of, encoded, weight, apart, IsDistance, Pattern, IsPattern, ArePatterns, syndrome_of}
 use Rattle.netlist_spec.proofs.ListTests.{both, any_element, any_from}
 use Rattle.block_code.proofs.Coding.{ones, weight_ones, length_sum, sum_zeros_right, apart_zero, apart_same, length_encoded, length_syndrome, zero_from_codeword, one_error, ones_sum, sum_swap, no_ones, sum_take, sum_drop, checks_sum}
-use Rattle.correction_laws.specs.Decoding.{found_error}
+use Rattle.corrector.proofs.Patterns.{of_map}
 use Rattle.cone_split.proofs.Cells.{all_contains}
 
 -- ---- sums of words and of their check bits
@@ -17,7 +18,7 @@ syndrome_sum code is_code m e f he hf =
     ap₂ (λ (a b : Bits). sum_of a b) front (sum_drop m e f)
     ∙ sum_swap (checks_of code (take m e)) (checks_of code (take m f)) (drop m e) (drop m f)
 
-sum_at : (a b : Bits) (i : ℕ) → length a ≡ length b → get_or (sum_of a b) i false ≡ differ (get_or a i false) (get_or b i false)
+pub sum_at : (a b : Bits) (i : ℕ) → length a ≡ length b → get_or (sum_of a b) i false ≡ differ (get_or a i false) (get_or b i false)
 sum_at [] [] i h = refl
 sum_at [] (y ∷ b) i h = absurd (omega arith)
 sum_at (x ∷ a) [] i h = absurd (omega arith)
@@ -41,10 +42,9 @@ same_truth true b f g = sym (f refl)
 same_truth false true f g = let clash : false ≡ true = g refl in cc clash
 same_truth false false f g = refl
 
-of_map : {A B : Type 0} (f : A → B) (xs : List A) (y : B) → Contains (map f xs) y → (x : A) × Contains xs x × (f x ≡ y)
-of_map f [] y c = absurd (let h = c.1 in omega arith)
-of_map f (x ∷ xs) y (zero, h, e) = (x, (0, omega arith, refl), e)
-of_map f (x ∷ xs) y (suc k, h, e) = let (z, (i, inside, same), g) = of_map f xs y (k, omega arith, e) in (z, (suc i, omega arith, same), g)
+-- some pattern has this syndrome and an error at the place
+abbrev pub found_error : List Pattern → Bits → ℕ → Bool
+found_error patterns syndrome i = list_any (λ p. (apart p.syndrome syndrome == 0) && get_or p.error i false) patterns
 
 -- ---- the error
 
