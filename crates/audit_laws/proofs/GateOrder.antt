@@ -15,11 +15,11 @@ use Rattle.audit_laws.specs.Along.{AreInOrder}
 
 -- ---- the gates among some items
 
-abbrev put : Declared → List Gate → List Gate
+abbrev pub put : Declared → List Gate → List Gate
 put (a_statement s) gs = cons_option (as_gate s) gs
 put _ gs = gs
 
-abbrev gates_at : List Item → List Gate
+abbrev pub gates_at : List Item → List Gate
 gates_at [] = []
 gates_at (i ∷ items) = put i.what (gates_at items)
 
@@ -74,7 +74,7 @@ port_gates kind f (p ∷ ps) rest =
     placed_gates (record { line = p.line; what = kind p.name }) (by_line (port_items kind ps ++ rest)) (inl (f p.name))
     ∙ (f p.name (gates_at (by_line (port_items kind ps ++ rest))) ∙ port_gates kind f ps rest)
 
-gates_in_lines : (m : Model) (low : ℕ) (high : Option ℕ) → NeverFall low high (map (λ s. s.line) m.statements) → gates_at (items_of m) ≡ gates_of m
+pub gates_in_lines : (m : Model) (low : ℕ) (high : Option ℕ) → NeverFall low high (map (λ s. s.line) m.statements) → gates_at (items_of m) ≡ gates_of m
 gates_in_lines m low high f =
     let ins = port_items (λ n. an_input n) m.inputs in
     let outs = port_items (λ n. an_output n) m.outputs in

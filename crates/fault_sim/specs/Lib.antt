@@ -1,0 +1,6 @@
+pub mod Gates
+pub mod Faults
+pub mod Row
+pub mod Cells
+pub mod Simulated
+pub mod Build
