@@ -6,3 +6,4 @@ pub mod CellLemmas
 pub mod OrderLemmas
 pub mod CycleLemmas
 pub mod BuildLemmas
+pub mod RunLemmas

@@ -4,3 +4,4 @@ pub mod Row
 pub mod Cells
 pub mod Simulated
 pub mod Build
+pub mod HasRun

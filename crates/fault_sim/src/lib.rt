@@ -6,10 +6,12 @@ mod cells;
 mod cover;
 mod faults;
 mod gates;
+mod laws;
 mod row;
 mod sim;
 
 pub use cells::CellId;
 pub use faults::CellFault;
+pub use laws::cycles_make_a_run;
 pub use line_order::OrderFault as SimFault;
 pub use sim::Sim;
