@@ -1,0 +1,9 @@
+//! Stimulus and script files of the simulator.
+#![tactic(auto)]
+
+mod fault;
+mod row;
+mod stimulus;
+
+pub use fault::StimFault;
+pub use stimulus::Stimulus;
