@@ -20,7 +20,7 @@ use Rattle.containment.proofs.IndependentTexts.{independent_text}
 use Rattle.guard_laws.specs.Promised.{cell_count, IsGuardOf}
 use Rattle.guard_laws.specs.Named.{IsGuardNamed}
 use Rattle.guard_laws.specs.Texts.{IsGuardFrom}
-use Rattle.program_spec.specs.GuardText.{IsGuardText}
+use Rattle.guard_text_spec.specs.GuardText.{IsGuardText}
 use Rattle.netlist_spec.specs.Reads.{Reads}
 use Rattle.netlist_spec.specs.Runs.{IsSteady}
 use Rattle.guard_spec.specs.SettingsFile.{settings_of_bytes}

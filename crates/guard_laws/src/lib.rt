@@ -26,7 +26,7 @@ ghost use Rattle.guard_laws.specs.Texts.{IsGuardFrom};
 ghost use Rattle.guard_laws.specs.Places.{AreDataPlaces, HavePlaces, latches_of_words};
 ghost use Rattle.std.specs.List.{AllByRecursion, flat_map, range_with_len};
 ghost use Rattle.guard_spec.specs.Containment.{IsGuard};
-ghost use Rattle.program_spec.specs.GuardText.{IsGuardText};
+ghost use Rattle.guard_text_spec.specs.GuardText.{IsGuardText};
 ghost use Rattle.netlist_spec.specs.Reads.{Reads};
 ghost use Rattle.netlist_spec.specs.Runs.{IsSteady};
 ghost use Rattle.guard_spec.specs.SettingsFile.{settings_of_bytes};

@@ -10,6 +10,6 @@ pub mod PartialSizes
 pub mod LabelKinds
 pub mod ConeMarks
 pub mod BitCosts
-pub mod SmallSizes
+pub mod AloneSizes
 pub mod TakenOver
 pub mod BitOrder

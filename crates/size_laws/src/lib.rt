@@ -15,6 +15,6 @@ pub use sizes::{
     cones_have_one_cost, gate_cones_have_one_cost, machines_have_one_size, sources_have_one_size,
 };
 pub use sums::{
-    bit_costs_add_up, partial_sizes_add_up, partial_sizes_stay_below, sizes_decide_the_step,
+    bit_costs_add_up, partial_sizes_add_up, partial_sizes_stay_below, sizes_stand_alone,
     word_costs_add_up,
 };

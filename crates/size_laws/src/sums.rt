@@ -1,5 +1,5 @@
 // Laws of sums that come to a size, or stop.
-ghost use Rattle.std.specs.Prelude.{◌≡◌, ◌↔◌, ℕ, ◌+◌, ◌*◌, ◌^◌, ◌<◌, ◌≤◌, Bool, List, [], ◌∷◌, ◌++◌, Some, length, min, slice_get, slice_index_or};
+ghost use Rattle.std.specs.Prelude.{◌≡◌, ℕ, ◌+◌, ◌*◌, ◌^◌, ◌<◌, ◌≤◌, Bool, List, [], ◌∷◌, ◌++◌, Some, length, min, slice_get, slice_index_or};
 ghost use Rattle.std.specs.List.{AllZip};
 ghost use Rattle.guard_spec.specs.Codes.{Code, IsCode, Mode, correct, data_places, detect, rail_count, weight};
 ghost use Rattle.netlist_spec.specs.Covers.{Library};
@@ -8,9 +8,6 @@ ghost use Rattle.netlist_spec.specs.Netlist.{File, Model, Name};
 ghost use Rattle.netlist_spec.specs.Cones.{AreMarked, ConeCostOf, marked_sum};
 ghost use Rattle.guard_spec.specs.Plain.{AreNets, IsPlain, IsSizeWith, corrector_cost, rail_cost, word_cost};
 ghost use Rattle.guard_spec.specs.Words.{IsLayout, Layout, Settings, Words};
-ghost use Rattle.program_spec.specs.Refusals.{guard_too_large};
-ghost use Rattle.program_spec.specs.Steps.{Nothing, smallness};
-ghost use Rattle.program_spec.specs.Walk.{ComesTo, Contents, Verdict, end, passes, refused, test};
 ghost use Rattle.size_laws.specs.Partial.{IsBitCost, IsPartialSize, IsWordCost, NeedsWord};
 
 /// The cost of a word, bit by bit: each bit adds its cost, and once more for each 1 of its row.
@@ -76,15 +73,11 @@ pub fn bit_costs_add_up()
         → corrector_cost code t m ≤ 12 * 16 + t * 2 ^ 28 * (16 + t) + 2 * 12 + 1 }
 {}
 
-/// The step on the size of a guard passes exactly where the size is at most 1,000,000. Where a sum stops above that,
-/// there is a size, and it is above that too.
-pub fn sizes_decide_the_step()
-    ensures small { (file : File) (s : Settings) (m : Model) (l : Layout) (n : ℕ) (contents : Contents) (v : Verdict)
-        → IsPlain file s.library m s.code s.mode s.bound l n → n ≤ 1000000
-        → ComesTo (test Nothing (smallness file s m l) (λ small. end)) contents v ↔ (v ≡ passes) }
-    ensures large { (file : File) (s : Settings) (m : Model) (l : Layout) (n : ℕ) (contents : Contents) (v : Verdict)
-        → IsPlain file s.library m s.code s.mode s.bound l n → 1000000 < n
-        → ComesTo (test Nothing (smallness file s m l) (λ small. end)) contents v ↔ (v ≡ refused guard_too_large) }
+/// A layout has at most one size, whether or not it fits. Where a sum stops above 1,000,000, there is a size, and it is
+/// above that too.
+pub fn sizes_stand_alone()
+    ensures alone { (file : File) (s : Settings) (m : Model) (l : Layout) (n k : ℕ)
+        → IsPlain file s.library m s.code s.mode s.bound l n → IsPlain file s.library m s.code s.mode s.bound l k → n ≡ k }
     ensures stopped { (file : File) (s : Settings) (m : Model) (l : Layout) (i j p : ℕ) → IsLayout m s l
         → IsPartialSize file s.library m s.code s.mode s.bound (rail_count s.mode s.bound) l i j p → 1000000 < p
         → (n : ℕ) × IsPlain file s.library m s.code s.mode s.bound l n × (1000000 < n) }

@@ -1,0 +1,2 @@
+//! Definitions of what is said of the bytes that a guard is written as.
+#![tactic(auto)]
