@@ -7,7 +7,7 @@ ghost use Rattle.program_examples.specs.ProgramExamples.{demo_file, demo_model, 
 ghost use Rattle.netlist_spec.specs.Netlist.{cover_inputs};
 ghost use Rattle.netlist_spec.specs.ReadFaults.{too_many, unknown_statement};
 ghost use Rattle.netlist_spec.specs.SoundFaults.{loop, reserved};
-ghost use Rattle.program_spec.specs.Commands.{code, command_of, flat, is_cycle, is_demo_size};
+ghost use Rattle.program_spec.specs.Commands.{code, command_of, flat, is_cycle, is_demo_size, sim};
 ghost use Rattle.program_spec.specs.Verdict.{IsAccepted};
 ghost use Rattle.guard_spec.specs.Codes.{detect, hamming_code};
 ghost use Rattle.program_spec.specs.Demo.{demo_settings};
@@ -58,9 +58,11 @@ pub fn small_lines_are_printed()
 pub fn small_words_are_commands()
     ensures flat { command_of (codes "flat" ∷ codes "a" ∷ []) ≡ Some (flat (codes "a")) }
     ensures code { command_of (codes "code" ∷ codes "a" ∷ []) ≡ Some (code (codes "a")) }
+    ensures sim { command_of (codes "sim" ∷ codes "a" ∷ codes "b" ∷ codes "c" ∷ []) ≡ Some (sim (codes "a") (codes "b") (codes "c")) }
     ensures none { command_of [] ≡ None }
     ensures few { command_of (codes "flat" ∷ []) ≡ None }
     ensures many { command_of (codes "flat" ∷ codes "a" ∷ codes "b" ∷ []) ≡ None }
+    ensures few_of_three { command_of (codes "sim" ∷ codes "a" ∷ codes "b" ∷ []) ≡ None }
     ensures other { command_of (codes "flatten" ∷ codes "a" ∷ []) ≡ None }
     ensures cycle { (is_cycle (codes "x") ≡ false) × (is_cycle (codes "000042") ≡ true) × (is_cycle (codes "0000042") ≡ false) }
     ensures sizes { (is_demo_size (codes "0") ≡ false) × (is_demo_size (codes "00") ≡ false) × (is_demo_size (codes "01") ≡ true) × (is_demo_size (codes "64") ≡ true) × (is_demo_size (codes "65") ≡ false) × (is_demo_size (codes "001") ≡ false) }

@@ -1,17 +1,24 @@
 -- Each test has one answer, and so each command one verdict.
-use Rattle.std.proofs.Common.{◌≡◌, refl, sym, ◌∙◌, ap, ℕ, List, Option, Some, None, Result, Ok, Err}
-use Rattle.netlist_spec.specs.Netlist.{File}
+use Rattle.std.proofs.Common.{◌≡◌, refl, sym, ◌∙◌, ap, ℕ, List, length, Option, Some, None, Result, Ok, Err}
+use Rattle.netlist_spec.specs.Netlist.{Model, File}
+use Rattle.netlist_spec.specs.Models.{main_model, data_inputs}
 use Rattle.netlist_spec.specs.ReadFaults.{ReadFault, read_fault}
-use Rattle.netlist_spec.specs.Ordered.{order_fault}
+use Rattle.netlist_spec.specs.Ordered.{order_fault, cell_nets}
+use Rattle.netlist_spec.specs.Runs.{Fault}
+use Rattle.netlist_spec.specs.SourceRun.{Stream}
 use Rattle.netlist_spec.proofs.OneReading.{one_reading}
 use Rattle.netlist_spec.proofs.NoFault.{reads_no_fault}
 use Rattle.guard_spec.specs.SettingsFile.{settings_of_bytes}
-use Rattle.program_spec.specs.Commands.{Command, flat, code}
-use Rattle.program_spec.specs.Refusals.{Refusal, unreadable, bad_settings, out_of_order}
-use Rattle.program_spec.specs.Walk.{Contents, Verdict, refused, passes, IsTest, HasTests}
-use Rattle.program_spec.specs.Steps.{IsToldOf, gives, reading, readiness, order_of}
-use Rattle.program_spec.specs.Verdict.{walk_of, IsVerdict, IsDoneText, IsFoundText}
+use Rattle.stimulus_spec.specs.Stimulus.{stimulus_of, script_of}
+use Rattle.program_spec.specs.Commands.{Command, flat, code, sim}
+use Rattle.program_spec.specs.Refusals.{Refusal, unreadable, bad_settings, out_of_order, bad_stimulus, bad_script_line}
+use Rattle.program_spec.specs.Walk.{Contents, Verdict, refused, passes, IsTest, HasTests, Walk}
+use Rattle.program_spec.specs.Steps.{IsToldOf, gives, reading, readiness, main_of, order_of, script_in, stimulus_in}
+use Rattle.program_spec.specs.Verdict.{load_ordered, run_walk, walk_of, IsVerdict, IsDoneText, IsFoundText}
 use Rattle.program_spec.proofs.WalkLaws.{one_verdict}
+
+same_some : {A : Type 0} (answer : Option A) (a b : A) → answer ≡ Some a → answer ≡ Some b → a ≡ b
+same_some answer a b p q = let e : Some a ≡ Some b = sym p ∙ q in cc
 
 same_ok : (A F : Type 0) (answer : Result A F) (a b : A) → answer ≡ Ok a → answer ≡ Ok b → a ≡ b
 same_ok A F answer a b p q = let e : Ok a ≡ Ok b = sym p ∙ q in cc
@@ -59,11 +66,32 @@ order_test file =
       never_both = λ a r p q. none_told _ (order_fault file) out_of_order r p q;
     }
 
+pub main_test : (file : File) → IsTest Model (main_of file)
+main_test file =
+    record {
+      one_found = λ a b p q. same_some (main_model file) a b p q;
+      one_refused = λ r s p q. absurd p;
+      never_both = λ a r p q. q;
+    }
+
+stream_test : (m : Model) (bytes : List ℕ) → IsTest Stream (stimulus_in m bytes)
+stream_test m bytes = gives_test _ _ (stimulus_of (length (data_inputs m)) bytes) bad_stimulus
+
+script_test : (m : Model) (bytes : List ℕ) → IsTest (List Fault) (script_in m bytes)
+script_test m bytes = gives_test _ _ (script_of (cell_nets m) bytes) bad_script_line
+
 -- ---- the tests of each command
 
+-- those of a netlist that can be evaluated line by line, before others
+ordered_tests : (netlist : List ℕ) (next : File → Model → Walk) → ((file : File) (m : Model) → HasTests (next file m)) → HasTests (load_ordered netlist next)
+ordered_tests netlist next rest = λ bytes short. (reading_test bytes, λ file reads. (order_test file, λ ordered is. (main_test file, λ m main. rest file m)))
+
 pub has_tests : (command : Command) → HasTests (walk_of command)
-has_tests (flat netlist) = λ bytes. (reading_test bytes, λ file. (readiness_test file, λ ready. tt))
-has_tests (code settings) = λ text. (gives_test _ _ (settings_of_bytes text) bad_settings, λ s. tt)
+has_tests (flat netlist) = λ bytes short. (reading_test bytes, λ file reads. (readiness_test file, λ ready is. tt))
+has_tests (code settings) = λ text short. (gives_test _ _ (settings_of_bytes text) bad_settings, λ s is. tt)
+has_tests (sim netlist stimulus script) =
+    ordered_tests netlist (λ file m. run_walk m stimulus script)
+    (λ file m. λ text short. (stream_test m text, λ xs is. λ lines few. (script_test m lines, λ faults said. tt)))
 
 -- What a command may write is of one kind.
 pub one_kind : (command : Command) (contents : Contents) (text other : List ℕ) → IsDoneText command contents text → IsFoundText command contents other → ⊥

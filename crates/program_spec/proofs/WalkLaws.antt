@@ -11,20 +11,20 @@ abbrev Loaded : Option (List ℕ) → List ℕ → ℕ → (List ℕ → Type 0)
 Loaded found name limit P verdict =
     MatchOption found (verdict ≡ not_held name) (λ bytes. ((limit < length bytes) × (verdict ≡ refused (file_too_long name))) ⊎ ((length bytes ≤ limit) × P bytes))
 
-one_loaded : (found : Option (List ℕ)) (name : List ℕ) (limit : ℕ) (v w : Verdict) (P Q : List ℕ → Type 0) → ((bytes : List ℕ) → P bytes → Q bytes → v ≡ w) → Loaded found name limit P v → Loaded found name limit Q w → v ≡ w
+one_loaded : (found : Option (List ℕ)) (name : List ℕ) (limit : ℕ) (v w : Verdict) (P Q : List ℕ → Type 0) → ((bytes : List ℕ) → length bytes ≤ limit → P bytes → Q bytes → v ≡ w) → Loaded found name limit P v → Loaded found name limit Q w → v ≡ w
 one_loaded None name limit v w P Q one a b = a ∙ sym b
 one_loaded (Some bytes) name limit v w P Q one (inl a) (inl b) = a.1 ∙ sym b.1
 one_loaded (Some bytes) name limit v w P Q one (inl a) (inr b) = absurd (omega (arith, a.0, b.0))
 one_loaded (Some bytes) name limit v w P Q one (inr a) (inl b) = absurd (omega (arith, a.0, b.0))
-one_loaded (Some bytes) name limit v w P Q one (inr a) (inr b) = one bytes a.1 b.1
+one_loaded (Some bytes) name limit v w P Q one (inr a) (inr b) = one bytes a.0 a.1 b.1
 
 pub one_verdict : (w : Walk) → HasTests w → (contents : Contents) (u v : Verdict) → ComesTo w contents u → ComesTo w contents v → u ≡ v
 one_verdict end h contents u v a b = a ∙ sym b
 one_verdict (load name limit next) h contents u v a b =
-    one_loaded (contents name) name limit u v (λ bytes. ComesTo (next bytes) contents u) (λ bytes. ComesTo (next bytes) contents v) (λ bytes. one_verdict (next bytes) (h bytes) contents u v) a b
+    one_loaded (contents name) name limit u v (λ bytes. ComesTo (next bytes) contents u) (λ bytes. ComesTo (next bytes) contents v) (λ bytes short. one_verdict (next bytes) (h bytes short) contents u v) a b
 one_verdict (test A asks next) h contents u v (inl a) (inl b) =
     let same : b.0 ≡ a.0 = h.0.one_found b.0 a.0 b.1 a.1 in
-    one_verdict (next a.0) (h.1 a.0) contents u v a.2 (subst (λ x. ComesTo (next x) contents v) same b.2)
+    one_verdict (next a.0) (h.1 a.0 a.1) contents u v a.2 (subst (λ x. ComesTo (next x) contents v) same b.2)
 one_verdict (test A asks next) h contents u v (inl a) (inr b) = absurd (h.0.never_both a.0 b.0 a.1 b.1)
 one_verdict (test A asks next) h contents u v (inr a) (inl b) = absurd (h.0.never_both b.0 a.0 b.1 a.1)
 one_verdict (test A asks next) h contents u v (inr a) (inr b) = a.2 ∙ (ap refused (h.0.one_refused a.0 b.0 a.1 b.1) ∙ sym b.2)

@@ -6,4 +6,4 @@ pub mod Steps
 pub mod Verdict
 pub mod ErrorLines
 pub mod Demo
-pub mod GuardText
+pub mod CampaignText

@@ -1,12 +1,18 @@
 -- What a command comes to over the contents of its files, and what it may write where all its steps pass.
-use Rattle.std.specs.Prelude.{◌≡◌, ◌⊎◌, ℕ, List, Ok, IsSomeAnd}
+use Rattle.std.specs.Prelude.{◌≡◌, ◌⊎◌, ℕ, List, length, Ok, Some, IsSomeAnd}
 use Rattle.netlist_spec.specs.Netlist.{Model, File}
 use Rattle.netlist_spec.specs.Covers.{empty_library}
+use Rattle.netlist_spec.specs.Models.{main_model, data_inputs}
+use Rattle.netlist_spec.specs.Ordered.{cell_nets}
+use Rattle.netlist_spec.specs.Reads.{Reads}
+use Rattle.netlist_spec.specs.Runs.{Fault}
+use Rattle.netlist_spec.specs.SourceRun.{Stream}
 use Rattle.netlist_spec.specs.WrittenText.{IsFlatText}
+use Rattle.stimulus_spec.specs.Stimulus.{stimulus_of, script_of}
 use Rattle.guard_spec.specs.Words.{Settings, Layout}
 use Rattle.guard_spec.specs.SettingsFile.{settings_of_bytes}
-use Rattle.program_spec.specs.Printed.{IsReport}
-use Rattle.program_spec.specs.Commands.{Command, flat, code, netlist_limit, other_limit}
+use Rattle.program_spec.specs.Printed.{IsReport, IsRunText}
+use Rattle.program_spec.specs.Commands.{Command, flat, code, sim, netlist_limit, other_limit}
 use Rattle.program_spec.specs.Walk.{Contents, Verdict, passes, Walk, end, load, test, ComesTo}
 use Rattle.program_spec.specs.Steps.{reading, readiness, soundness, settings_in, strength, main_of, words_of, smallness, order_of, stimulus_in, script_in}
 
@@ -30,17 +36,18 @@ guard_walk settings netlist next =
 
 -- ---- the steps of each command
 
+-- of `sim`, behind its netlist
+abbrev pub run_walk : Model → List ℕ → List ℕ → Walk
+run_walk m stimulus script =
+    load stimulus other_limit (λ text. test _ (stimulus_in m text) (λ xs.
+    load script other_limit (λ lines. test _ (script_in m lines) (λ faults. end))))
+
 abbrev pub walk_of : Command → Walk
 walk_of (flat netlist) = load_netlist netlist (λ file. test _ (readiness file) (λ ready. end))
 walk_of (code settings) = load settings other_limit (λ text. test _ (settings_in text) (λ s. end))
+walk_of (sim netlist stimulus script) = load_ordered netlist (λ file m. run_walk m stimulus script)
 
--- of `sim`, of `audit`, and of `campaign`, which begins as `guard`
-abbrev pub sim_walk : List ℕ → List ℕ → List ℕ → Walk
-sim_walk netlist stimulus script =
-    load_ordered netlist (λ file m.
-    load stimulus other_limit (λ text. test _ (stimulus_in m text) (λ xs.
-    load script other_limit (λ lines. test _ (script_in m lines) (λ faults. end)))))
-
+-- of `audit`, and of `campaign`, which begins as `guard`
 abbrev pub audit_walk : List ℕ → Walk
 audit_walk netlist = load_ordered netlist (λ file m. end)
 
@@ -66,10 +73,26 @@ pub record IsReportText (bytes text : List ℕ) : Type 0 where
   pub is_settings : settings_of_bytes bytes ≡ Ok s
   pub is_report : IsReport s.code text
 
+-- The lines of a simulation: the netlist is read as a file, the stimulus as a stream for its data inputs, and the script as
+-- a fault list for its cells, and the text is that of the run.
+pub record IsSimText (netlist stimulus script text : List ℕ) : Type 0 where
+  pub file : File
+  pub reads : Reads netlist file
+  pub model : Model
+  pub is_main : main_model file ≡ Some model
+  pub xs : Stream
+  pub is_stream : stimulus_of (length (data_inputs model)) stimulus ≡ Ok xs
+  pub faults : List Fault
+  pub is_script : script_of (cell_nets model) script ≡ Ok faults
+  pub is_run : IsRunText file xs faults text
+
 -- A text that the command may write over these contents, where its verdict passes and it finds nothing.
 abbrev pub IsDoneText : Command → Contents → List ℕ → Type 0
 IsDoneText (flat netlist) contents text = IsSomeAnd (contents netlist) (λ bytes. IsFlatText bytes text empty_library)
 IsDoneText (code settings) contents text = IsSomeAnd (contents settings) (λ bytes. IsReportText bytes text)
+IsDoneText (sim netlist stimulus script) contents text =
+    IsSomeAnd (contents netlist) (λ bytes. IsSomeAnd (contents stimulus) (λ rows. IsSomeAnd (contents script) (λ entries.
+    IsSimText bytes rows entries text)))
 
 -- Whether a command can find something. None that is built can.
 abbrev pub MayFind : Command → Type 0

@@ -54,8 +54,8 @@ pub record IsTest (A : Type 0) (asks : Test A) : Type 0 where
   pub one_refused : (r s : Refusal) → asks.Refuses r → asks.Refuses s → r ≡ s
   pub never_both : (a : A) (r : Refusal) → asks.Finds a → asks.Refuses r → ⊥
 
--- so each test of the walk
+-- So each test to which the walk can come: behind a load one of bytes that it takes, behind a test one of what that finds.
 abbrev pub HasTests : Walk → Type 0
 HasTests end = ⊤
-HasTests (load name limit next) = (bytes : List ℕ) → HasTests (next bytes)
-HasTests (test A asks next) = IsTest A asks × ((found : A) → HasTests (next found))
+HasTests (load name limit next) = (bytes : List ℕ) → length bytes ≤ limit → HasTests (next bytes)
+HasTests (test A asks next) = IsTest A asks × ((found : A) → asks.Finds found → HasTests (next found))

@@ -1,4 +1,4 @@
--- What is said of the bytes that `guard`, `campaign` and `demo` write.
+-- What is said of the bytes that `campaign` and `demo` write.
 use Rattle.std.specs.Prelude.{◌≡◌, ℕ, ◌+◌, ◌*◌, List, ◌++◌, Ok, length}
 use Rattle.netlist_spec.specs.Netlist.{File}
 use Rattle.netlist_spec.specs.Reads.{Reads}
@@ -6,25 +6,13 @@ use Rattle.netlist_spec.specs.Models.{data_inputs}
 use Rattle.netlist_spec.specs.SourceRun.{Stream}
 use Rattle.netlist_spec.specs.Runs.{Fault}
 use Rattle.netlist_spec.specs.Ordered.{cell_nets}
-use Rattle.guard_spec.specs.Words.{Settings}
-use Rattle.guard_spec.specs.SettingsFile.{settings_of_bytes}
 use Rattle.stimulus_spec.specs.Stimulus.{stimulus_of}
 use Rattle.guard_spec.specs.Containment.{IsGuard}
 use Rattle.guard_spec.specs.Tally.{Tally, IsTally}
+use Rattle.guard_text_spec.specs.GuardText.{IsGuardText}
 use Rattle.program_spec.specs.Printed.{tally_text, demo_text}
 use Rattle.program_spec.specs.Demo.{demo_netlist, demo_settings, demo_stream, demo_cycle}
 use Rattle.netlist_spec.specs.WrittenText.{IsTextOf}
-
--- What `guard` writes for settings and a source: a text with one reading, which is a guard of the source for the
--- fault lists that are allowed with the bound.
-pub record IsGuardText (settings netlist text : List ℕ) (allowed : ℕ → List Fault → Type 0) : Type 0 where
-  pub s : Settings
-  pub is_settings : settings_of_bytes settings ≡ Ok s
-  pub source : File
-  pub is_source : Reads netlist source
-  pub g : File
-  pub text_of_g : IsTextOf text source g
-  pub guards : IsGuard g source s (allowed s.bound)
 
 -- What `campaign` writes: the five lines of a tally, and then the text of a guard. The tally is that of this guard, on the
 -- stream of the stimulus and for the source and the words for which it is a guard.
