@@ -26,9 +26,10 @@ pub record AppendsPrefix (old new : Option (List ℕ)) (text : List ℕ) : Type 
   pub parts : text ≡ front ++ rest
   pub appended : Appends old new front
 
--- a text that is put, in one piece or in several, with that answer
+-- A text that is put, in one piece or in several, with that answer. It is Ok only where no put has failed.
 pub record Puts {T : Type 0} (old : SinkSeen) (text : List ℕ) (result : Result T SinkFault) (new : SinkSeen) : Type 0 where
   pub whole : OnOk result (Appends old.written new.written text)
+  pub kept : OnOk result (new.faults ≡ old.faults)
   pub prefix : OnErr result (AppendsPrefix old.written new.written text)
   pub failed : IsErrOf result Failed → Rose old.faults new.faults
   pub no_memory : IsErrOf result NoMemory → Rose old.denied new.denied
