@@ -14,9 +14,9 @@ use imp_text::{NameId, Names};
 use std::alloc::{AllocError, Global};
 use std::marker::Model;
 
-// A mark for each name of a model.
+/// A mark for each name of a model.
 #[derive(Drop)]
-pub(crate) struct NetMarks {
+pub struct NetMarks {
     marks: Vec<bool>,
 }
 
@@ -29,8 +29,8 @@ impl Model for NetMarks {
 }
 
 impl NetMarks {
-    // No name is marked.
-    pub(crate) fn new(alloc: Global, names: &Names) -> Result<NetMarks, AllocError>
+    /// No name is marked.
+    pub fn new(alloc: Global, names: &Names) -> Result<NetMarks, AllocError>
         ensures { IfOk result (λ marks. Marks names.now marks []) }
     {
         Ok(NetMarks {
@@ -38,8 +38,8 @@ impl NetMarks {
         })
     }
 
-    // Whether a name is marked.
-    pub(crate) fn has(&self, id: NameId) -> bool
+    /// Whether a name is marked.
+    pub fn has(&self, id: NameId) -> bool
         requires { id.0 < length self.now }
         ensures { (all listed : List Bytes) → Marks all self.now listed → result ≡ stands_in (name_at all id) listed }
     {
@@ -59,8 +59,8 @@ impl NetMarks {
         true
     }
 
-    // Marks a name.
-    pub(crate) fn mark(&mut self, id: NameId)
+    /// Marks a name.
+    pub fn mark(&mut self, id: NameId)
         requires { id.0 < length self.old }
         ensures size { length self.new ≡ length self.old }
         ensures marked { (all listed : List Bytes) → Marks all self.old listed → Marks all self.new (listed ++ name_at all id ∷ []) }
@@ -79,8 +79,8 @@ impl NetMarks {
         }
     }
 
-    // Marks the names of ports.
-    pub(crate) fn mark_ports(&mut self, ports: &[Port])
+    /// Marks the names of ports.
+    pub fn mark_ports(&mut self, ports: &[Port])
         requires { All (λ (port : ReadPort). port.name.0 < length self.old) ports.now }
         ensures size { length self.new ≡ length self.old }
         ensures marked { (all listed : List Bytes) → Marks all self.old listed → Marks all self.new (listed ++ map (λ (port : ReadPort). name_at all port.name) ports.now) }
@@ -163,8 +163,8 @@ impl NetMarks {
         }
     }
 
-    // Marks the outputs of cells.
-    pub(crate) fn mark_cells(&mut self, statements: &[Located])
+    /// Marks the outputs of cells.
+    pub fn mark_cells(&mut self, statements: &[Located])
         requires { All (λ (s : ReadLocated). All (λ (id : Id). id.0 < length self.old) (ids_in s.what)) statements.now }
         ensures size { length self.new ≡ length self.old }
         ensures marked { (all listed : List Bytes) → Marks all self.old listed

@@ -7,22 +7,22 @@ ghost use Rattle.line_order.specs.Merge.{AreByLine, IsPlace, item_at, items_left
 
 use blif_read::{Located, Model, Port};
 
-// A declaration of a model, by its place in its list.
+/// A declaration of a model, by its place in its list.
 #[derive(Clone, Copy, Debug)]
-pub(crate) enum Place {
+pub enum Place {
     Input(usize),
     Output(usize),
     Clock(usize),
     Statement(usize),
 }
 
-// How many declarations of each list have been gone through.
+/// How many declarations of each list have been gone through.
 #[derive(Clone, Copy, Debug)]
-pub(crate) struct Passed {
-    pub(crate) inputs: usize,
-    pub(crate) outputs: usize,
-    pub(crate) clocks: usize,
-    pub(crate) statements: usize,
+pub struct Passed {
+    pub inputs: usize,
+    pub outputs: usize,
+    pub clocks: usize,
+    pub statements: usize,
 }
 
 // Behind each line.
@@ -55,8 +55,8 @@ fn statement_line(statements: &[Located], place: usize) -> u64
     }
 }
 
-// The next declaration in file order, which is then passed.
-pub(crate) fn next_place(m: &Model, passed: &mut Passed) -> Option<Place>
+/// The next declaration in file order, which is then passed.
+pub fn next_place(m: &Model, passed: &mut Passed) -> Option<Place>
     requires by_line { AreByLine (model_of m.now) }
     ensures some { IfSome result (λ place. items_left (model_of m.now) passed.old ≡ item_at (model_of m.now) place ∷ items_left (model_of m.now) passed.new) }
     ensures place { IfSome result (λ place. IsPlace m.now place) }

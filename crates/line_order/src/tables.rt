@@ -1,9 +1,10 @@
 // Which nets are driven, may be read and may be passed on, as far as a model has been gone through.
 ghost use Rattle.std.specs.Prelude.{◌≡◌, ℕ, ◌<◌, List, [], ◌∷◌, ◌++◌, length, map, Option, IfOk, All};
 ghost use Rattle.netlist_spec.specs.FileOrder.{Item, a_clock, a_statement, an_input, an_output};
-ghost use Rattle.netlist_spec.specs.Models.{clock_nets, data_inputs, is_declared as is_declared_in};
+ghost use Rattle.netlist_spec.specs.Models.{clock_nets, data_inputs};
 ghost use Rattle.netlist_spec.specs.Netlist.{Cover, Model as SpecModel, latch, names};
 ghost use Rattle.netlist_spec.specs.Ordered.{is_at_fault, item_fault};
+ghost use Rattle.netlist_spec.specs.Placed.{port_names};
 ghost use Rattle.imp_text.specs.declared.names.NameId.{NameId as Id};
 ghost use Rattle.blif_read.specs.Ids.{HasIds, control_ids, ids_in};
 ghost use Rattle.blif_read.specs.View.{clocking_of, located_of, model_of, name_at, statement_of};
@@ -13,7 +14,7 @@ ghost use Rattle.line_order.specs.Marks.{Marks};
 ghost use Rattle.line_order.specs.Tables.{AreTables, HaveSize, is_driven_before};
 
 use crate::OrderFault;
-use crate::clocking::{first_clocking, same_clocking};
+use crate::clocking::{first_clocking, is_declared, same_clocking};
 use crate::fault::unordered_if;
 use crate::marks::NetMarks;
 use crate::merge::Place;
@@ -49,9 +50,7 @@ impl Tables {
         known.mark_latches(&m.statements);
         let mut sources = data_marks(alloc, m)?;
         sources.mark_cells(&m.statements);
-        let mut declared = NetMarks::new(alloc, &m.names)?;
-        declared.mark_ports(&m.inputs);
-        declared.mark_ports(&m.clocks);
+        let declared = declared_marks(alloc, m)?;
         Ok(Tables {
             known,
             sources,
@@ -167,21 +166,8 @@ impl Tables {
         let driven = self.is_driven(q);
         let has_source = self.sources.has(d);
         let alike = same_clocking(clocking, self.first);
-        let declared = self.is_declared(clocking);
+        let declared = is_declared(&self.declared, clocking);
         driven | !has_source | !alike | !declared
-    }
-
-    // Whether a control is none or an input or a clock.
-    fn is_declared(&self, clocking: Clocking) -> bool
-        requires { All (λ (id : Id). id.0 < length self.now.declared) (control_ids clocking) }
-        ensures { (m : SpecModel) (passed : List Item) → AreTables m passed self.now → result ≡ is_declared_in m (clocking_of m.names clocking) }
-    {
-        if let Clocking::Edge { control, .. } = clocking {
-            if let Some(id) = control {
-                return self.declared.has(id);
-            }
-        }
-        true
     }
 
     // Marks what a declaration drives and shows.
@@ -216,8 +202,8 @@ impl Tables {
     }
 }
 
-// The clock nets are marked.
-pub(crate) fn clock_marks(alloc: Global, m: &Model) -> Result<NetMarks, AllocError>
+/// The clock nets are marked: the names of `.clock` and the controls of latches other than `NIL`.
+pub fn clock_marks(alloc: Global, m: &Model) -> Result<NetMarks, AllocError>
     requires { HasIds m.now }
     ensures { IfOk result (λ marks. Marks m.now.names marks (clock_nets (model_of m.now))) }
 {
@@ -225,6 +211,17 @@ pub(crate) fn clock_marks(alloc: Global, m: &Model) -> Result<NetMarks, AllocErr
     clocks.mark_ports(&m.clocks);
     clocks.mark_controls(&m.statements);
     Ok(clocks)
+}
+
+/// The names of `.inputs` and of `.clock` are marked.
+pub fn declared_marks(alloc: Global, m: &Model) -> Result<NetMarks, AllocError>
+    requires { HasIds m.now }
+    ensures { IfOk result (λ marks. Marks m.now.names marks (port_names (model_of m.now).inputs ++ port_names (model_of m.now).clocks)) }
+{
+    let mut declared = NetMarks::new(alloc, &m.names)?;
+    declared.mark_ports(&m.inputs);
+    declared.mark_ports(&m.clocks);
+    Ok(declared)
 }
 
 // The data inputs are marked.

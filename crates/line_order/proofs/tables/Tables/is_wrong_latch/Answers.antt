@@ -16,4 +16,4 @@ returns c = λ m passed init t.
     (c.is_driven-driven.ensures m passed t)
     (c.has-has_source.ensures m.names _ t.sources ∙ stands_in-append (name_at m.names c.args.d) (data_inputs m) (cell_nets m))
     (c.same_clocking-alike.ensures m.names t.inputs.distinct own t.control ∙ ap (same_clocking (clocking_of m.names c.args.clocking)) t.first)
-    (c.is_declared-declared.ensures m passed t)
+    (c.is_declared-declared.ensures m t.declared)

@@ -1,15 +1,13 @@
-use Rattle.std.proofs.Common.{◌∙◌, ◌++◌, sym, ap, ap₂, subst, List, Bool, [], map, append-nil}
+use Rattle.std.proofs.Common.{◌∙◌, ◌++◌, sym, ap, subst, List, Bool, [], append-nil}
 use Rattle.std.specs.List.{flat_map}
 use Rattle.netlist_spec.specs.Netlist.{Name}
-use Rattle.netlist_spec.specs.Placed.{port_names}
 use Rattle.netlist_spec.specs.Models.{data_inputs, latch_outputs}
 use Rattle.netlist_spec.specs.Ordered.{cell_nets}
-use Rattle.blif_read.specs.declared.file.Port.{Port}
 use Rattle.blif_read.specs.declared.file.Located.{Located}
-use Rattle.blif_read.specs.View.{name_at, statement_of, model_of}
+use Rattle.blif_read.specs.View.{statement_of, model_of}
 use Rattle.line_order.specs.Marks.{Marks, latch_output_of, cell_of}
 use Rattle.line_order.proofs.MarkLemmas.{listed_as}
-use Rattle.line_order.proofs.TableLemmas.{ports_named, latches_named, cells_named}
+use Rattle.line_order.proofs.TableLemmas.{latches_named, cells_named}
 use Rattle.line_order.proofs.tables.Tables.new.Goals as goal
 
 pub returns : goal.returns
@@ -26,15 +24,10 @@ returns c =
     listed_as all c.mark_cells.new.self _ (first ++ cell_nets M)
     (ap (λ (ns : List Name). first ++ ns) (ap (flat_map (λ (s : Located). cell_of (statement_of all s.what))) c.deref-2.ensures.value ∙ cells_named all m.statements.items))
     (c.mark_cells.ensures.marked all first c.in_ok-sources.ensures) in
-    let inputs = c.mark_ports.ensures.marked all [] c.in_ok-declared.ensures in
     record {
       known = subst (λ (l : List Bool). Marks all l ((first ++ latch_outputs M) ++ [])) (sym c.known.view_is) known;
       sources = subst (λ (l : List Bool). Marks all l (first ++ cell_nets M)) (sym c.sources.view_is) sources;
-      declared = listed_as all c.mark_ports-2.new.self _ (port_names M.inputs ++ port_names M.clocks)
-          (ap₂ (λ (xs ys : List Name). xs ++ ys)
-          (ap (map (λ (p : Port). name_at all p.name)) c.deref-3.ensures.value ∙ ports_named all m.inputs.items)
-          (ap (map (λ (p : Port). name_at all p.name)) c.deref-4.ensures.value ∙ ports_named all m.clocks.items))
-          (c.mark_ports-2.ensures.marked all _ inputs);
+      declared = c.in_ok-declared.ensures;
       inputs = c.in_ok-new.ensures;
       outputs = c.in_ok-new-2.ensures;
       clocks = c.in_ok-new-3.ensures;
