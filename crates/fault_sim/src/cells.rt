@@ -9,7 +9,7 @@ use blif_read::{NameId, Names};
 use std::alloc::{AllocError, Global};
 
 /// The number of a cell in file order, from 0.
-#[derive(Clone, Copy, Debug, PartialEq, Eq)]
+#[derive(Clone, Copy, Debug, Default, PartialEq, Eq)]
 pub struct CellId(pub u32);
 
 // The cell of each net, where there is one.

@@ -12,7 +12,7 @@ use crate::CellId;
 use blif_read::NameId;
 
 /// A cell that gives a chosen bit for a whole cycle.
-#[derive(Clone, Copy, Debug, PartialEq, Eq)]
+#[derive(Clone, Copy, Debug, Default, PartialEq, Eq)]
 pub struct CellFault {
     pub cell: CellId,
     pub value: bool,

@@ -95,6 +95,7 @@ impl Sim {
     pub fn cell(&self, name: &[u8]) -> Option<CellId>
         ensures place { IfSome result (λ id. slice_get self.now.cells id.0 ≡ Some name.now) }
         ensures absent { IfNone result (stands_in name.now self.now.cells ≡ false) }
+        ensures distinct { IsTrue (are_distinct self.now.cells) }
     {
         match self.names.find(name) {
             Some(id) => self.by_net[id.0 as usize],

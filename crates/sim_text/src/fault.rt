@@ -1,4 +1,4 @@
-// Why a stimulus or a script is refused.
+// Why a stimulus is refused.
 
 use std::alloc::AllocError;
 

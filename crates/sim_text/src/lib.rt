@@ -1,4 +1,4 @@
-//! Stimulus and script files of the simulator.
+//! Stimulus files of the simulator.
 #![tactic(auto)]
 
 mod fault;
