@@ -1,0 +1,4 @@
+pub mod Refusals
+pub mod Entries
+pub mod Scripts
+pub mod Faults
