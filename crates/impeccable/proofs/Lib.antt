@@ -1,7 +1,9 @@
 pub mod OwnLemmas
 pub mod StepLemmas
+pub mod LoadsLemmas
 pub mod FlatLemmas
 pub mod CodeLemmas
+pub mod SimLemmas
 pub mod OutcomeLemmas
 pub mod ErrorLineLemmas
 pub mod WriteLemmas

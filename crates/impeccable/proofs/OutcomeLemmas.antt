@@ -18,10 +18,10 @@ at command old new out out' answer other is h = subst (λ a. Answers command old
 pub Answers-complete : (command : Command) (old new : FilesSeen) (out out' : SinkSeen) (answer : Answer) (outcome : Outcome) → IsAnswer outcome answer → Answers command old new out out' answer → IsComplete command old new out out' outcome
 Answers-complete command old new out out' answer Done is h =
     let a = at command old new out out' answer _ is h in
-    λ known pass calm quiet. inl (refl, (a known).1, (a known).2)
+    λ known pass calm quiet. inl (refl, (a.1 known).1, (a.1 known).2)
 Answers-complete command old new out out' answer Found is h =
     let a = at command old new out out' answer _ is h in
-    λ known pass calm quiet. inr (inl (refl, (a.1 known).1, (a.1 known).2))
+    λ known pass calm quiet. inr (inl (refl, (a.2 known).1, (a.2 known).2))
 Answers-complete command old new out out' answer Usage is h = absurd (at command old new out out' answer _ is h)
 Answers-complete command old new out out' answer (Refused told) is h =
     let a = at command old new out out' answer _ is h in
@@ -37,7 +37,7 @@ Answers-complete command old new out out' answer NoMemory is h = λ known pass c
 pub Answers-find : (command : Command) (old new : FilesSeen) (out out' : SinkSeen) (answer : Answer) (outcome : Outcome) → IsAnswer outcome answer → Answers command old new out out' answer → FindsThere command old new out out' outcome
 Answers-find command old new out out' answer Done is h =
     let a = at command old new out out' answer _ is h in
-    λ known text pass told calm quiet. absurd (one_kind command (bytes_at old.told) (a known).1 text (a known).2 told)
+    λ known text pass told calm quiet. absurd (one_kind command (bytes_at old.told) (a.1 known).1 text (a.1 known).2 told)
 Answers-find command old new out out' answer Found is h = λ known text pass told calm quiet. inl refl
 Answers-find command old new out out' answer Usage is h = absurd (at command old new out out' answer _ is h)
 Answers-find command old new out out' answer (Refused told) is h =
@@ -54,10 +54,10 @@ Answers-find command old new out out' answer NoMemory is h = λ known text pass 
 pub Answers-refuse : (command : Command) (old new : FilesSeen) (out out' : SinkSeen) (answer : Answer) (outcome : Outcome) → IsAnswer outcome answer → Answers command old new out out' answer → RefusesThere command old new outcome
 Answers-refuse command old new out out' answer Done is h =
     let a = at command old new out out' answer _ is h in
-    λ known refusal r calm. absurd (passes_not_refused command (bytes_at old.told) refusal (a known).0 r)
+    λ known refusal r calm. absurd (passes_not_refused command (bytes_at old.told) refusal (a.1 known).0 r)
 Answers-refuse command old new out out' answer Found is h =
     let a = at command old new out out' answer _ is h in
-    λ known refusal r calm. absurd (passes_not_refused command (bytes_at old.told) refusal (a.1 known).0 r)
+    λ known refusal r calm. absurd (passes_not_refused command (bytes_at old.told) refusal (a.2 known).0 r)
 Answers-refuse command old new out out' answer Usage is h = absurd (at command old new out out' answer _ is h)
 Answers-refuse command old new out out' answer (Refused told) is h =
     let a = at command old new out out' answer _ is h in

@@ -8,9 +8,7 @@ use Rattle.imp_io.specs.Files.{FilesSeen, Loads, own_count}
 use Rattle.imp_io.specs.declared.fault.LoadFault.{LoadFault}
 use Rattle.imp_io.specs.declared.fault.LoadFault.TheVariants.{Failed, TooLong, NoMemory}
 use Rattle.program_spec.specs.ErrorLines.{Answer, done, found, usage, refused, read_fault, write_fault, no_memory}
-use Rattle.impeccable.specs.declared.ended.Stop.{Stop}
 use Rattle.impeccable.specs.Answers.{KeepsOwn}
-use Rattle.impeccable.specs.Ended.{stop_answer}
 
 -- one name and all others
 own-all : (old new : FilesSeen) (name : List ℕ) → own_count new.told name ≡ own_count old.told name → ((other : List ℕ) → other ≢ name → own_count new.told other ≡ own_count old.told other) → (n : List ℕ) → own_count new.told n ≡ own_count old.told n

@@ -4,7 +4,6 @@ use Rattle.std.proofs.lemmas.List.{length-map, map-append}
 use Rattle.std.proofs.lemmas.List.FromFn.{length-map-range_with_len, map-range_with_len_more}
 use Rattle.netlist_spec.specs.Covers.{has_bit}
 use Rattle.netlist_spec.specs.Statements.{bit_char}
-use Rattle.std.specs.Prelude.{decimal}
 use Rattle.impeccable.specs.declared.code.Report.{Report}
 use Rattle.guard_spec.specs.Codes.{Code, bits_of, data_places}
 use Rattle.program_spec.specs.Printed.{IsReport, bits_text, report_text}

@@ -11,20 +11,22 @@ use Rattle.guard_spec.specs.SettingsFile.{SettingsFault, settings_of_bytes}
 use Rattle.guard_spec.specs.Words.{Settings}
 use Rattle.program_spec.specs.Commands.{Command}
 use Rattle.program_spec.specs.Refusals.{Refusal, file_too_long, unreadable, bad_settings}
-use Rattle.program_spec.specs.Walk.{Contents, Verdict, passes, refused as refuses, Test, Walk, end, load, test, ComesTo}
+use Rattle.program_spec.specs.Walk.{Contents, passes, refused as refuses, Test, Walk, load, test, ComesTo}
 use Rattle.program_spec.specs.Steps.{reading, settings_in}
-use Rattle.program_spec.specs.Verdict.{walk_of, IsVerdict, IsDoneText}
+use Rattle.program_spec.specs.Verdict.{walk_of, IsVerdict, IsTextFor}
 use Rattle.program_spec.specs.ErrorLines.{refused, no_memory}
 use Rattle.blif_write.specs.declared.refusal.WriteRefusal.{WriteRefusal}
 use Rattle.blif_write.specs.declared.refusal.WriteRefusal.TheVariants.{Fault, NoMemory as NoSpace}
 use Rattle.blif_write.specs.Refusals.{put_answer}
 use Rattle.blif_read.specs.Faults.{IsFault}
 use Rattle.settings.specs.Faults.{IsFault as IsSettingsFault}
+use Rattle.impeccable.specs.declared.ended.Success.{Success}
+use Rattle.impeccable.specs.declared.ended.Success.TheVariants.{Done, Found}
 use Rattle.impeccable.specs.declared.ended.Stop.{Stop}
 use Rattle.impeccable.specs.declared.ended.Stop.TheVariants.{Usage, Refused, ReadFault, WriteFault, NoMemory}
 use Rattle.impeccable.specs.Answers.{Answers, TookTooMuch, WhereTold}
-use Rattle.impeccable.specs.Ended.{stop_answer, fault_answer, sink_answer, write_answer}
-use Rattle.impeccable.specs.Steps.{LoadsNamed, Passed, Stops}
+use Rattle.impeccable.specs.Ended.{success_answer, stop_answer, fault_answer, sink_answer, write_answer}
+use Rattle.impeccable.specs.Steps.{IsPrepared, LoadsNamed, Passed, Stops}
 
 -- ---- steps that pass
 
@@ -58,13 +60,13 @@ pub test-stops : (command : Command) (old new : FilesSeen) (A : Type 0) (asks : 
 test-stops command old new A asks next refusal out p h took = (refl, λ known. p.verdict known (refuses refusal) (inr (refusal, h, refl)), took)
 
 -- a fault of a layer
-fault-stops : (command : Command) (old new : FilesSeen) (A F : Type 0) (asks : Test A) (next : A → Walk) (told : F → Refusal) (fault : Option F) (stop : Stop) → Passed old (walk_of command) (test A asks next) → ((f : F) → fault ≡ Some f → asks.Refuses (told f)) → ((f : F) → TookTooMuch command (told f) old new)
+pub fault-stops : (command : Command) (old new : FilesSeen) (A F : Type 0) (asks : Test A) (next : A → Walk) (told : F → Refusal) (fault : Option F) (stop : Stop) → Passed old (walk_of command) (test A asks next) → ((f : F) → fault ≡ Some f → asks.Refuses (told f)) → ((f : F) → TookTooMuch command (told f) old new)
     → stop_answer stop ≡ fault_answer F told fault → Stops command old stop new
 fault-stops command old new A F asks next told None stop p h took is = memory-stops command old new stop is
 fault-stops command old new A F asks next told (Some f) stop p h took is =
     as-answered command old new stop (refused (told f)) is (λ out. test-stops command old new A asks next (told f) out p (h f refl) (took f))
 
-is-read-fault : (bytes : List ℕ) (fault : Option Unread) → IsFault (read_fault bytes) fault → (f : Unread) → fault ≡ Some f → read_fault bytes ≡ Some f
+pub is-read-fault : (bytes : List ℕ) (fault : Option Unread) → IsFault (read_fault bytes) fault → (f : Unread) → fault ≡ Some f → read_fault bytes ≡ Some f
 is-read-fault bytes None h f e = absurd (cc)
 is-read-fault bytes (Some g) h f e = h ∙ e
 
@@ -105,16 +107,30 @@ load-stops command old new name limit next NoMemory p h = λ out. inl refl
 load-stops command old new name limit next Usage p h = absurd h
 load-stops command old new name limit next WriteFault p h = absurd h
 
--- a put
-pub put-stops : {T : Type 0} (command : Command) (old new : FilesSeen) (out out' : SinkSeen) (text : List ℕ) (fault : SinkFault) (stop : Stop) → WhereTold old (λ contents. IsVerdict command contents passes × IsDoneText command contents text) → Puts {T = T} out text (Err fault) out'
+-- ---- what is written
+
+-- a text of either kind
+either : (command : Command) (success : Success) (old : FilesSeen) (text : List ℕ) → IsPrepared command success old text → WhereTold old (λ contents. IsVerdict command contents passes × IsTextFor command contents text)
+either command Done old text h = λ known. ((h known).0, inl (h known).1)
+either command Found old text h = λ known. ((h.1 known).0, inr (h.1 known).1)
+
+-- the whole text
+pub put-ends : {T : Type 0} (command : Command) (success : Success) (old new : FilesSeen) (out out' : SinkSeen) (text : List ℕ) (x : T) → IsPrepared command success old text → Puts {T = T} out text (Ok x) out' → Answers command old new out out' (success_answer success)
+put-ends command Done old new out out' text x h p = (p.kept, λ known. ((h known).0, text, (h known).1, p.whole))
+put-ends command Found old new out out' text x h p = (p.kept, h.0, λ known. ((h.1 known).0, text, (h.1 known).1, p.whole))
+
+-- a put that fails
+pub put-stops : {T : Type 0} (command : Command) (success : Success) (old new : FilesSeen) (out out' : SinkSeen) (text : List ℕ) (fault : SinkFault) (stop : Stop) → IsPrepared command success old text → Puts {T = T} out text (Err fault) out'
     → stop_answer stop ≡ sink_answer fault → Answers command old new out out' (stop_answer stop)
-put-stops command old new out out' text Failed stop h p is =
-    subst (λ a. Answers command old new out out' a) (sym is) (p.failed refl, λ known. ((h known).0, text, inl (h known).1, p.prefix))
-put-stops command old new out out' text NoRoom stop h p is =
-    subst (λ a. Answers command old new out out' a) (sym is) (inr (λ known. ((h known).0, text, inl (h known).1, p.prefix)))
+put-stops command success old new out out' text Failed stop h p is =
+    let ready = either command success old text h in
+    subst (λ a. Answers command old new out out' a) (sym is) (p.failed refl, λ known. ((ready known).0, text, (ready known).1, p.prefix))
+put-stops command success old new out out' text NoRoom stop h p is =
+    let ready = either command success old text h in
+    subst (λ a. Answers command old new out out' a) (sym is) (inr (λ known. ((ready known).0, text, (ready known).1, p.prefix)))
 
 -- a netlist that isn't written whole
-pub write-stops : {T : Type 0} (command : Command) (old new : FilesSeen) (out out' : SinkSeen) (text : List ℕ) (fault : WriteRefusal) (stop : Stop) → WhereTold old (λ contents. IsVerdict command contents passes × IsDoneText command contents text) → Puts {T = T} out text (put_answer (Err fault)) out'
+pub write-stops : {T : Type 0} (command : Command) (success : Success) (old new : FilesSeen) (out out' : SinkSeen) (text : List ℕ) (fault : WriteRefusal) (stop : Stop) → IsPrepared command success old text → Puts {T = T} out text (put_answer (Err fault)) out'
     → stop_answer stop ≡ write_answer fault → Answers command old new out out' (stop_answer stop)
-write-stops command old new out out' text Fault stop h p is = put-stops command old new out out' text Failed stop h p is
-write-stops command old new out out' text NoSpace stop h p is = put-stops command old new out out' text NoRoom stop h p is
+write-stops command success old new out out' text Fault stop h p is = put-stops command success old new out out' text Failed stop h p is
+write-stops command success old new out out' text NoSpace stop h p is = put-stops command success old new out out' text NoRoom stop h p is

@@ -44,10 +44,11 @@ KeepsOwn old new _ = (name : List ℕ) → own_count new.told name ≡ own_count
 -- What each answer of a command says: `old` and `new` are the files before and after the run, `out` and `out'` what it
 -- writes to.
 abbrev pub Answers : Command → FilesSeen → FilesSeen → SinkSeen → SinkSeen → Answer → Type 0
--- a whole text was appended
-Answers command old new out out' done = PassesWith command IsDoneText old (λ text. Appends out.written out'.written text)
+-- a whole text was appended, and no put failed
+Answers command old new out out' done =
+    (out'.faults ≡ out.faults) × PassesWith command IsDoneText old (λ text. Appends out.written out'.written text)
 Answers command old new out out' found =
-    MayFind command × PassesWith command IsFoundText old (λ text. Appends out.written out'.written text)
+    (out'.faults ≡ out.faults) × MayFind command × PassesWith command IsFoundText old (λ text. Appends out.written out'.written text)
 -- the words spell a command
 Answers command old new out out' usage = ⊥
 -- nothing was written

@@ -6,3 +6,5 @@ pub mod Answers
 pub mod Steps
 pub mod Flat
 pub mod Code
+pub mod Loads
+pub mod Sim

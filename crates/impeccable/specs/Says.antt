@@ -7,11 +7,18 @@ use Rattle.imp_io.specs.Sink.{SinkSeen, AppendsPrefix, Puts}
 use Rattle.imp_io.specs.declared.fault.SinkFault.{SinkFault}
 use Rattle.program_spec.specs.ErrorLines.{Answer, answer_line}
 use Rattle.netlist_spec.specs.Escapes.{escape}
+use Rattle.impeccable.specs.declared.told.Tail.{Tail}
+use Rattle.impeccable.specs.declared.told.Tail.TheVariants.{Nothing, Name}
 use Rattle.impeccable.specs.declared.told.Told.{Told}
 
--- a text, a name as it is printed, and the end of the line
-abbrev pub named_line : List ℕ → List ℕ → List ℕ
-named_line front name = front ++ flat_map escape name ++ 10 ∷ []
+-- what is told behind a text
+abbrev pub tail_text : Tail → List ℕ
+tail_text Nothing = []
+tail_text (Name name) = flat_map escape name.now
+
+-- a text, what is told behind it, and the end of the line
+abbrev pub tailed_line : List ℕ → Tail → List ℕ
+tailed_line text tail = text ++ tail_text tail ++ 10 ∷ []
 
 -- what a line begins with, in the pieces that are put
 abbrev pub front_text : List ℕ → Option ℕ → List ℕ
@@ -24,7 +31,7 @@ place_text None = []
 place_text (Some line) = codes " line " ++ decimal line
 
 abbrev pub told_text : Told → List ℕ
-told_text told = told.number.now ++ place_text told.line ++ 32 ∷ (told.text.now ++ flat_map escape told.name.now)
+told_text told = told.number.now ++ place_text told.line ++ 32 ∷ (told.text.now ++ tail_text told.tail)
 
 -- The line was put, or a prefix of it at the first put that failed.
 abbrev pub PutsAnswer : {T : Type 0} → Answer → SinkSeen → Result T SinkFault → SinkSeen → Type 0

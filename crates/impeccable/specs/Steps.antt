@@ -6,7 +6,9 @@ use Rattle.imp_io.specs.Files.{FilesSeen, bytes_at, own_count}
 use Rattle.imp_io.specs.Sink.{SinkSeen}
 use Rattle.program_spec.specs.Commands.{Command}
 use Rattle.program_spec.specs.Walk.{Verdict, Walk, ComesTo, ComesToLoad, HasLoad, passes}
-use Rattle.program_spec.specs.Verdict.{IsVerdict, IsDoneText}
+use Rattle.program_spec.specs.Verdict.{IsVerdict, IsDoneText, MayFind, IsFoundText}
+use Rattle.impeccable.specs.declared.ended.Success.{Success}
+use Rattle.impeccable.specs.declared.ended.Success.TheVariants.{Done, Found}
 use Rattle.impeccable.specs.declared.ended.Stop.{Stop}
 use Rattle.impeccable.specs.declared.ended.Stop.TheVariants.{Usage, Refused, ReadFault, WriteFault, NoMemory}
 use Rattle.impeccable.specs.declared.outcome.Refusal.TheVariants.{FileTooLong}
@@ -37,8 +39,20 @@ LoadsNamed old name most (Err WriteFault) new = ⊥
 abbrev pub Stops : Command → FilesSeen → Stop → FilesSeen → Type 0
 Stops command old stop new = (out : SinkSeen) → Answers command old new out out (stop_answer stop)
 
--- the steps of a command up to what is to be written, of which the text is given
-abbrev pub Prepares : {T : Type 0} → Command → (T → List ℕ) → FilesSeen → Result T Stop → FilesSeen → Type 0
-Prepares command text_of old (Ok made) new =
-    WhereTold old (λ contents. IsVerdict command contents passes × IsDoneText command contents (text_of made))
-Prepares command text_of old (Err stop) new = Stops command old stop new
+-- All steps of a command pass, and this text is one that it may write where it ends so.
+abbrev pub IsPrepared : Command → Success → FilesSeen → List ℕ → Type 0
+IsPrepared command Done old text =
+    WhereTold old (λ contents. IsVerdict command contents passes × IsDoneText command contents text)
+IsPrepared command Found old text =
+    MayFind command × WhereTold old (λ contents. IsVerdict command contents passes × IsFoundText command contents text)
+
+-- The steps of a command up to what is to be written: of what is made, how the command ends and its text are given.
+abbrev pub Prepares : {T : Type 0} → Command → (T → Success) → (T → List ℕ) → FilesSeen → Result T Stop → FilesSeen → Type 0
+Prepares command success_of text_of old (Ok made) new = IsPrepared command (success_of made) old (text_of made)
+Prepares command success_of text_of old (Err stop) new = Stops command old stop new
+
+-- the same of a command that finds nothing, where the texts that may be written are given by a relation
+abbrev pub PreparesEach : {T : Type 0} → Command → (T → List ℕ → Type 0) → FilesSeen → Result T Stop → FilesSeen → Type 0
+PreparesEach command IsTextOf old (Ok made) new =
+    WhereTold old (λ contents. IsVerdict command contents passes × ((text : List ℕ) → IsTextOf made text → IsDoneText command contents text))
+PreparesEach command IsTextOf old (Err stop) new = Stops command old stop new

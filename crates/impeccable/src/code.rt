@@ -1,5 +1,6 @@
 // The command `code SETTINGS`.
 ghost use Rattle.std.specs.Prelude.{◌≡◌, ◌<◌, ◌≤◌, IfOk};
+ghost use Rattle.imp_io.specs.Blocks.{Gives};
 ghost use Rattle.imp_io.specs.Files.{IsLater};
 ghost use Rattle.imp_io.specs.Sink.{Puts};
 ghost use Rattle.guard_spec.specs.Codes.{bits_of};
@@ -9,7 +10,7 @@ ghost use Rattle.program_spec.specs.Commands.{code as code_command};
 ghost use Rattle.program_spec.specs.Printed.{bits_text};
 ghost use Rattle.impeccable.specs.Answers.{Answers, KeepsOwn};
 ghost use Rattle.impeccable.specs.Code.{Measures, number_text, report_lines, size_text, word_line};
-ghost use Rattle.impeccable.specs.Ended.{answer_of, part_answer};
+ghost use Rattle.impeccable.specs.Ended.{answer_of, is_done, part_answer};
 ghost use Rattle.impeccable.specs.Steps.{Prepares};
 
 use crate::ended::{Ended, Stop, Success};
@@ -17,7 +18,7 @@ use crate::load::load_named;
 use arrayvec::ArrayVec;
 use block_code::{Code, Word};
 use distance::distance;
-use imp_io::{Files, Sink, SinkFault};
+use imp_io::{Blocks, Files, Sink, SinkFault};
 use itoa::Buffer;
 use settings::read;
 use std::alloc::Global;
@@ -57,7 +58,7 @@ fn read_settings<'a, F: Files>(
     settings: &'a str,
     files: &mut F,
 ) -> Result<Report, Stop<'a>>
-    ensures prepares { Prepares (code_command settings.now) report_lines (F.seen files.old) result (F.seen files.new) }
+    ensures prepares { Prepares (code_command settings.now) is_done report_lines (F.seen files.old) result (F.seen files.new) }
     ensures few { IfOk result (λ report. report.data_places ≤ 12) }
     ensures own { KeepsOwn (F.seen files.old) (F.seen files.new) (part_answer result) }
     ensures later { IsLater (F.seen files.old) (F.seen files.new) }
@@ -85,45 +86,49 @@ fn measure(code: &Code) -> Report
     }
 }
 
-// Writes the report, a line for each number.
 fn write_report<O: Sink>(report: &Report, out: &mut O) -> Result<(), SinkFault>
     requires { report.now.data_places ≤ 12 }
     ensures { Puts (O.seen out.old) (report_lines report.now) result (O.seen out.new) }
 {
-    put_size(report.places, report.data_places, out)?;
-    put_number(b"distance ", report.distance, out)?;
-    put_word(report.least, report.data_places, out)?;
-    put_number(b"detects ", report.detects, out)?;
-    put_number(b"corrects ", report.corrects, out)
+    let mut blocks = Blocks::new(out);
+    put_report(report, &mut blocks);
+    blocks.flush()
+}
+
+// The report, a line for each number.
+fn put_report<O: Sink>(report: &Report, out: &mut Blocks<'_, O>)
+    requires { report.now.data_places ≤ 12 }
+    ensures { Gives O.seen out.old (report_lines report.now) out.new }
+{
+    put_size(report.places, report.data_places, out);
+    put_number(b"distance ", report.distance, out);
+    put_word(report.least, report.data_places, out);
+    put_number(b"detects ", report.detects, out);
+    put_number(b"corrects ", report.corrects, out);
 }
 
 // The line of the numbers of places and of data places.
-fn put_size<O: Sink>(n: u8, k: u8, out: &mut O) -> Result<(), SinkFault>
-    ensures { Puts (O.seen out.old) (size_text n k) result (O.seen out.new) }
+fn put_size<O: Sink>(n: u8, k: u8, out: &mut Blocks<'_, O>)
+    ensures { Gives O.seen out.old (size_text n k) out.new }
 {
     let mut digits = Buffer::new();
-    out.put(b"code ")?;
-    out.put(digits.format(n).as_bytes())?;
-    put_number(b" ", k, out)
+    out.put_all(&[b"code ", digits.format(n).as_bytes()]);
+    put_number(b" ", k, out);
 }
 
 // A line of a text and a number.
-fn put_number<O: Sink>(front: &[u8], n: u8, out: &mut O) -> Result<(), SinkFault>
-    ensures { Puts (O.seen out.old) (number_text front.now n) result (O.seen out.new) }
+fn put_number<O: Sink>(front: &[u8], n: u8, out: &mut Blocks<'_, O>)
+    ensures { Gives O.seen out.old (number_text front.now n) out.new }
 {
     let mut digits = Buffer::new();
-    out.put(front)?;
-    out.put(digits.format(n).as_bytes())?;
-    out.put(b"\n")
+    out.put_all(&[front, digits.format(n).as_bytes(), b"\n"]);
 }
 
-fn put_word<O: Sink>(word: Word, places: u8, out: &mut O) -> Result<(), SinkFault>
+fn put_word<O: Sink>(word: Word, places: u8, out: &mut Blocks<'_, O>)
     requires { places ≤ 12 }
-    ensures { Puts (O.seen out.old) (word_line places word.0) result (O.seen out.new) }
+    ensures { Gives O.seen out.old (word_line places word.0) out.new }
 {
-    out.put(b"word ")?;
-    out.put(&word_text(word, places))?;
-    out.put(b"\n")
+    out.put_all(&[b"word ", &word_text(word, places), b"\n"]);
 }
 
 // The places of a word as `0` and `1`, place 0 first.

@@ -7,8 +7,17 @@ ghost use Rattle.impeccable.specs.Command.{as_asked};
 /// A command with the names of its files.
 #[derive(Clone, Copy, Debug)]
 pub(crate) enum Command<'a> {
-    Flat { netlist: &'a str },
-    Code { settings: &'a str },
+    Flat {
+        netlist: &'a str,
+    },
+    Code {
+        settings: &'a str,
+    },
+    Sim {
+        netlist: &'a str,
+        stimulus: &'a str,
+        script: &'a str,
+    },
 }
 
 /// The command that the words spell, if they spell one.
@@ -21,6 +30,11 @@ pub(crate) fn read_command<'a>(words: &'a [String]) -> Option<Command<'a>>
         }),
         [first, settings] if first.as_str() == "code" => Some(Command::Code {
             settings: settings.as_str(),
+        }),
+        [first, netlist, stimulus, script] if first.as_str() == "sim" => Some(Command::Sim {
+            netlist: netlist.as_str(),
+            stimulus: stimulus.as_str(),
+            script: script.as_str(),
         }),
         _ => None,
     }

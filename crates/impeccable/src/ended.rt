@@ -5,8 +5,11 @@ ghost use Rattle.impeccable.specs.Outcome.{IsAnswer};
 use crate::{Outcome, Refusal};
 use blif_read::BlifFault;
 use blif_write::WriteRefusal;
+use fault_script::ScriptFault;
+use fault_sim::SimFault;
 use imp_io::SinkFault;
 use settings::SetFault;
+use sim_text::StimFault;
 use std::alloc::AllocError;
 
 /// How a command ends that wrote its whole text.
@@ -130,6 +133,54 @@ impl<'a> From<SetFault> for Stop<'a> {
             SetFault::UnknownKey(key) => Stop::Refused(Refusal::UnknownKey(key)),
             SetFault::BadShape => Stop::Refused(Refusal::BadShape),
             SetFault::NoMemory => Stop::NoMemory,
+        }
+    }
+}
+
+impl<'a> From<SimFault> for Stop<'a> {
+    ghost use Rattle.std.specs.Prelude.{◌≡◌};
+    ghost use Rattle.line_order.specs.Faults.{fault_of};
+    ghost use Rattle.netlist_spec.specs.Ordered.{OrderFault};
+    ghost use Rattle.program_spec.specs.Refusals.{out_of_order};
+    ghost use Rattle.impeccable.specs.Ended.{fault_answer, stop_answer};
+
+    ghost from_gives = { λ fault stop. stop_answer stop ≡ fault_answer OrderFault out_of_order (fault_of fault) };
+
+    fn from(fault: SimFault) -> Self {
+        match fault {
+            SimFault::Unordered(line) => Stop::Refused(Refusal::Unordered(line)),
+            SimFault::HasSubckt(line) => Stop::Refused(Refusal::HasSubckt(line)),
+            SimFault::NoMemory => Stop::NoMemory,
+        }
+    }
+}
+
+impl<'a> From<StimFault> for Stop<'a> {
+    ghost use Rattle.std.specs.Prelude.{◌≡◌};
+    ghost use Rattle.impeccable.specs.Ended.{stimulus_answer, stop_answer};
+
+    ghost from_gives = { λ fault stop. stop_answer stop ≡ stimulus_answer fault };
+
+    fn from(fault: StimFault) -> Self {
+        match fault {
+            StimFault::BadStimulus(line) => Stop::Refused(Refusal::BadStimulus(line)),
+            StimFault::NoMemory => Stop::NoMemory,
+        }
+    }
+}
+
+impl<'a> From<ScriptFault> for Stop<'a> {
+    ghost use Rattle.std.specs.Prelude.{◌≡◌};
+    ghost use Rattle.impeccable.specs.Ended.{script_answer, stop_answer};
+
+    ghost from_gives = { λ fault stop. stop_answer stop ≡ script_answer fault };
+
+    fn from(fault: ScriptFault) -> Self {
+        match fault {
+            ScriptFault::BadScript(line) => Stop::Refused(Refusal::BadScript(line)),
+            ScriptFault::NoSuchCell(line) => Stop::Refused(Refusal::NoSuchCell(line)),
+            ScriptFault::MoreThanSixteen(line) => Stop::Refused(Refusal::MoreThanSixteen(line)),
+            ScriptFault::NoMemory => Stop::NoMemory,
         }
     }
 }

@@ -2,11 +2,11 @@
 ghost use Rattle.imp_io.specs.Sink.{Puts};
 ghost use Rattle.program_spec.specs.ErrorLines.{error_line};
 ghost use Rattle.impeccable.specs.Ended.{answer_of};
-ghost use Rattle.impeccable.specs.Says.{PutsAnswer, Says, front_text, named_line, told_text};
+ghost use Rattle.impeccable.specs.Says.{PutsAnswer, Says, front_text, tail_text, tailed_line, told_text};
 
 use crate::ended::{Ended, Stop};
 use crate::escaped::put_escaped;
-use crate::told::{Told, told_of};
+use crate::told::{Tail, Told, told_of};
 use imp_io::{Sink, SinkFault, put_all};
 use itoa::Buffer;
 
@@ -27,7 +27,11 @@ fn put_answer<E: Sink>(ended: &Ended<'_>, err: &mut E) -> Result<(), SinkFault>
             b"impeccable: usage: flat NETLIST, code SETTINGS, guard SETTINGS NETLIST, sim NETLIST STIMULUS SCRIPT, audit NETLIST, campaign SETTINGS NETLIST STIMULUS CYCLE, demo N\n",
         ),
         Err(Stop::Refused(refusal)) => put_told(&told_of(refusal), err),
-        Err(Stop::ReadFault(name)) => put_named(b"impeccable: cannot read ", name.as_bytes(), err),
+        Err(Stop::ReadFault(name)) => put_tailed(
+            b"impeccable: cannot read ",
+            Tail::Name(name.as_bytes()),
+            err,
+        ),
         Err(Stop::WriteFault) => err.put(b"impeccable: cannot write\n"),
         Err(Stop::NoMemory) => err.put(b"impeccable: no memory\n"),
     }
@@ -38,7 +42,7 @@ fn put_told<E: Sink>(told: &Told<'_>, err: &mut E) -> Result<(), SinkFault>
     ensures { Puts (E.seen err.old) (error_line (told_text told.now)) result (E.seen err.new) }
 {
     put_front(told.number.as_bytes(), told.line, err)?;
-    put_named(told.text.as_bytes(), told.name, err)
+    put_tailed(told.text.as_bytes(), told.tail, err)
 }
 
 // What a line begins with: the number of a refusal, and that of a line of the input, where there is one.
@@ -55,11 +59,20 @@ fn put_front<E: Sink>(number: &[u8], line: Option<u32>, err: &mut E) -> Result<(
     }
 }
 
-// A text, a name as it is printed, and the end of the line.
-fn put_named<E: Sink>(front: &[u8], name: &[u8], err: &mut E) -> Result<(), SinkFault>
-    ensures { Puts (E.seen err.old) (named_line front.now name.now) result (E.seen err.new) }
+// A text, what is told behind it, and the end of the line.
+fn put_tailed<E: Sink>(text: &[u8], tail: Tail<'_>, err: &mut E) -> Result<(), SinkFault>
+    ensures { Puts (E.seen err.old) (tailed_line text.now tail.entry) result (E.seen err.new) }
 {
-    err.put(front)?;
-    put_escaped(name, err)?;
+    err.put(text)?;
+    put_tail(tail, err)?;
     err.put(b"\n")
+}
+
+fn put_tail<E: Sink>(tail: Tail<'_>, err: &mut E) -> Result<(), SinkFault>
+    ensures { Puts (E.seen err.old) (tail_text tail.entry) result (E.seen err.new) }
+{
+    match tail {
+        Tail::Nothing => Ok(()),
+        Tail::Name(name) => put_escaped(name, err),
+    }
 }

@@ -10,7 +10,7 @@ ghost use Rattle.netlist_spec.specs.WrittenText.{IsFlatText};
 ghost use Rattle.blif_read.specs.Ids.{HasIds};
 ghost use Rattle.blif_read.specs.View.{file_of};
 ghost use Rattle.impeccable.specs.Answers.{Answers, KeepsOwn};
-ghost use Rattle.impeccable.specs.Ended.{answer_of, part_answer};
+ghost use Rattle.impeccable.specs.Ended.{answer_of, is_done, part_answer};
 ghost use Rattle.impeccable.specs.Flat.{named_text};
 ghost use Rattle.impeccable.specs.Steps.{Prepares};
 
@@ -51,7 +51,7 @@ fn read_netlist<'a, F: Files>(
     netlist: &'a str,
     files: &mut F,
 ) -> Result<Named, Stop<'a>>
-    ensures prepares { Prepares (flat_command netlist.now) named_text (F.seen files.old) result (F.seen files.new) }
+    ensures prepares { Prepares (flat_command netlist.now) is_done named_text (F.seen files.old) result (F.seen files.new) }
     ensures own { KeepsOwn (F.seen files.old) (F.seen files.new) (part_answer result) }
     ensures later { IsLater (F.seen files.old) (F.seen files.new) }
 {

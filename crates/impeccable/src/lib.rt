@@ -8,8 +8,10 @@ mod error_line;
 mod escaped;
 mod flat;
 mod load;
+mod netlist;
 mod outcome;
 mod program;
+mod sim;
 mod told;
 
 pub use outcome::{Outcome, Refusal};

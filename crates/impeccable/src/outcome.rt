@@ -40,6 +40,19 @@ pub enum Refusal {
     UnknownKey(Text),
     /// `check` is an array of texts, and no check matrix.
     BadShape,
+    /// The line drives a net again, reads a net that no earlier line gives, passes on a net without a source or is clocked
+    /// otherwise, or it is a second `.model`.
+    Unordered(u32),
+    /// The line is a `.subckt`.
+    HasSubckt(u32),
+    /// The line isn't one word with one `0` or `1` for each data input, nor `-` where there is none, or it would be cycle 1,000,000.
+    BadStimulus(u32),
+    /// The line isn't a cycle, a name and `0` or `1`, or an earlier line has the same cycle and cell.
+    BadScript(u32),
+    /// No cell has the net of the line as its output.
+    NoSuchCell(u32),
+    /// Sixteen earlier lines have the cycle of the line.
+    MoreThanSixteen(u32),
     /// The netlist has sub-models, a clock, a wide cover, or lines out of order; or it isn't sound.
     NotYet,
 }

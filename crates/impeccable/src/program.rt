@@ -15,11 +15,13 @@ use crate::command::{Command, read_command};
 use crate::ended::{Ended, Stop, outcome_of};
 use crate::error_line::tell;
 use crate::flat::write_flat;
+use crate::sim::write_run;
 use imp_io::{Files, Sink};
 use std::alloc::Global;
 
 /// What the words ask for, over any files and sinks. The words are those of a command line without the program's
-/// own name: so far `flat NETLIST` and `code SETTINGS`.
+/// own name: so far `flat NETLIST`, `code SETTINGS` and
+/// `sim NETLIST STIMULUS SCRIPT`.
 pub fn run<F: Files, O: Sink, E: Sink>(
     alloc: Global,
     words: &[String],
@@ -74,5 +76,10 @@ fn perform<'a, F: Files, O: Sink>(
     match command {
         Command::Flat { netlist } => write_flat(alloc, netlist, files, out),
         Command::Code { settings } => report_code(alloc, settings, files, out),
+        Command::Sim {
+            netlist,
+            stimulus,
+            script,
+        } => write_run(alloc, netlist, stimulus, script, files, out),
     }
 }

@@ -3,17 +3,37 @@ ghost use Rattle.std.specs.Prelude.{◌≡◌, ◌∷◌, ◌++◌};
 ghost use Rattle.netlist_spec.specs.Escapes.{escaped};
 ghost use Rattle.program_spec.specs.ErrorLines.{at_line, refusal_text};
 ghost use Rattle.impeccable.specs.Outcome.{refusal_of};
-ghost use Rattle.impeccable.specs.Says.{told_text};
+ghost use Rattle.impeccable.specs.Says.{tail_text, told_text};
 
 use crate::Refusal;
 
-/// The number of a refusal, that of a line of the input, what is wrong, and the name that it is about, if any.
+/// The number of a refusal, that of a line of the input, what is wrong, and what is told behind that.
 #[derive(Clone, Copy, Debug)]
 pub(crate) struct Told<'a> {
     pub(crate) number: &'static str,
     pub(crate) line: Option<u32>,
     pub(crate) text: &'static str,
-    pub(crate) name: &'a [u8],
+    pub(crate) tail: Tail<'a>,
+}
+
+/// What is told behind the text of a refusal.
+#[derive(Clone, Copy, Debug)]
+pub(crate) enum Tail<'a> {
+    Nothing,
+    Name(&'a [u8]),
+}
+
+impl<'a> Tail<'a> {
+    // A name, and nothing where it is empty.
+    fn of(name: &'a [u8]) -> Self
+        ensures { tail_text result ≡ escaped name.now }
+    {
+        if name.is_empty() {
+            Tail::Nothing
+        } else {
+            Tail::Name(name)
+        }
+    }
 }
 
 /// What is told of a refusal.
@@ -40,6 +60,12 @@ pub(crate) fn told_of(refusal: &Refusal) -> Told<'_>
         Refusal::BadValue(key) => named("S3", "bad value ", key.bytes()),
         Refusal::UnknownKey(key) => named("S4", "unknown key ", key.bytes()),
         Refusal::BadShape => named("C1", "bad check matrix", b""),
+        Refusal::Unordered(line) => on_line("M1", *line, "unordered", b""),
+        Refusal::HasSubckt(line) => on_line("M2", *line, "has subckt", b""),
+        Refusal::BadStimulus(line) => on_line("M3", *line, "bad stimulus", b""),
+        Refusal::BadScript(line) => on_line("M4", *line, "bad script", b""),
+        Refusal::NoSuchCell(line) => on_line("M5", *line, "no such cell", b""),
+        Refusal::MoreThanSixteen(line) => on_line("M6", *line, "more than sixteen", b""),
         Refusal::NotYet => named("N1", "not yet", b""),
     }
 }
@@ -52,7 +78,7 @@ fn named<'a>(number: &'static str, text: &'static str, name: &'a [u8]) -> Told<'
         number,
         line: None,
         text,
-        name,
+        tail: Tail::of(name),
     }
 }
 
@@ -64,6 +90,6 @@ fn on_line<'a>(number: &'static str, line: u32, text: &'static str, name: &'a [u
         number,
         line: Some(line),
         text,
-        name,
+        tail: Tail::of(name),
     }
 }

@@ -1,8 +1,6 @@
 -- Each step of the walk of `flat`, and what stops it there.
 use Rattle.std.proofs.Common.{refl}
 use Rattle.std.proofs.lemmas.Result.{err_from_is_err_and}
-use Rattle.program_spec.specs.Commands.{flat, netlist_limit}
-use Rattle.program_spec.specs.Refusals.{not_yet}
 use Rattle.program_spec.specs.Walk.{passes}
 use Rattle.blif_read.specs.View.{file_of}
 use Rattle.impeccable.specs.Ended.{stop_answer}

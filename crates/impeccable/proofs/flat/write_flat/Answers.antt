@@ -1,9 +1,10 @@
 -- The flat netlist is prepared, and then written.
 use Rattle.std.proofs.lemmas.Result.{err_from_is_err_and}
 use Rattle.program_spec.specs.Commands.{flat}
+use Rattle.impeccable.specs.declared.ended.Success.TheVariants.{Done}
 use Rattle.impeccable.specs.Ended.{stop_answer}
 use Rattle.impeccable.proofs.OwnLemmas.{keeps}
-use Rattle.impeccable.proofs.StepLemmas.{write-stops}
+use Rattle.impeccable.proofs.StepLemmas.{put-ends, write-stops}
 use Rattle.impeccable.proofs.flat.write_flat.Goals as goal
 
 pub returns-in_err-named-clause-answers : goal.returns-in_err-named-clause-answers
@@ -14,12 +15,11 @@ returns-in_err-named-clause-answers g c =
 pub returns-in_err-write-clause-answers : goal.returns-in_err-write-clause-answers
 returns-in_err-write-clause-answers g c =
     let p = err_from_is_err_and c.from_residual-in_err-write.result c.from_residual-in_err-write.ensures.1 in
-    rw p.1 (write-stops (flat c.args.netlist.now) (g.F.Files.seen c.args.files.now) (g.F.Files.seen c.read_netlist.new.files) (g.O.Sink.seen c.args.out.now) (g.O.Sink.seen c.write.new.out) _ _ _ c.in_ok-named.ensures.prepares c.in_err-write.ensures.puts p.2)
+    rw p.1 (write-stops (flat c.args.netlist.now) Done (g.F.Files.seen c.args.files.now) (g.F.Files.seen c.read_netlist.new.files) (g.O.Sink.seen c.args.out.now) (g.O.Sink.seen c.write.new.out) _ _ _ c.in_ok-named.ensures.prepares c.in_err-write.ensures.puts p.2)
 
 pub returns-clause-answers : goal.returns-clause-answers
-returns-clause-answers g c = λ known.
-    let passed = c.in_ok-named.ensures.prepares known in
-    (passed.0, _, passed.1, c.in_ok-write.ensures.puts.whole)
+returns-clause-answers g c =
+    put-ends (flat c.args.netlist.now) Done (g.F.Files.seen c.args.files.now) (g.F.Files.seen c.read_netlist.new.files) (g.O.Sink.seen c.args.out.now) (g.O.Sink.seen c.write.new.out) _ _ c.in_ok-named.ensures.prepares c.in_ok-write.ensures.puts
 
 pub returns-in_err-named-clause-own : goal.returns-in_err-named-clause-own
 returns-in_err-named-clause-own g c =

@@ -1,8 +1,6 @@
 -- Only a load that failed is counted at its file.
 use Rattle.std.proofs.Common.{sym, ◌∙◌}
-use Rattle.std.proofs.lemmas.Result.{err_from_is_err_and}
-use Rattle.impeccable.specs.Ended.{stop_answer}
-use Rattle.impeccable.proofs.OwnLemmas.{load-keeps, keeps}
+use Rattle.impeccable.proofs.OwnLemmas.{load-keeps}
 use Rattle.impeccable.proofs.load.load_named.Goals as goal
 
 pub returns-in-Ok-clause-own : goal.returns-in-Ok-clause-own

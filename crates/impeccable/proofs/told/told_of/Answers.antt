@@ -1,5 +1,4 @@
 use Rattle.std.proofs.Common.{ap, sym, ◌∙◌, ◌++◌, codes}
-use Rattle.netlist_spec.specs.Escapes.{quantity_word}
 use Rattle.imp_text.specs.Quantities.{quantity_of}
 use Rattle.program_spec.specs.ErrorLines.{at_line, refusal_text}
 use Rattle.impeccable.specs.Outcome.{refusal_of}

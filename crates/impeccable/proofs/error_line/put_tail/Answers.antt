@@ -1,0 +1,8 @@
+use Rattle.imp_io.proofs.PutLemmas.{Puts-nil}
+use Rattle.impeccable.proofs.error_line.put_tail.Goals as goal
+
+pub returns-in-Nothing : goal.returns-in-Nothing
+returns-in-Nothing g c = rw c.in-Nothing.is (Puts-nil _ tt)
+
+pub returns-in-Name : goal.returns-in-Name
+returns-in-Name g c = rw c.in-Name.is c.put_escaped.ensures
