@@ -84,11 +84,30 @@ decides m (names ins out cover) kept none h = by_case (nat_lt 2 (length ins)) re
 decides m (latch d q clocking init) kept none h = by_bits m (latch d q clocking init) q refl (λ w. w) None refl kept h
 decides m (subckt model binds) kept none h = cc none
 
+-- nothing is found only where one bit is kept
+abbrev IsOne : FirstBits → Type 0
+IsOne kept = (bit : Bit) × (kept ≡ one_bit bit)
+
+one_of_bits : (m : Model) (cell : Name) (read : Option Name) (kept : FirstBits) → finding_of_bits m cell read kept ≡ None → IsOne kept
+one_of_bits m cell read no_bit e = cc e
+one_of_bits m cell read (one_bit bit) e = (bit, refl)
+one_of_bits m cell read (two_bits one other) e = cc e
+
+pub one_kept_of : (m : Model) (s : Statement) (kept : FirstBits) → IsNoSubckt s → finding_of m s kept ≡ None → IsOne kept
+one_kept_of m (names ins out cover) kept none e = by_case (nat_lt 2 (length ins)) e
+  where
+    by_case : (b : Bool) → cond b (Some (wide out)) (finding_of_bits m out (output_read m (names ins out cover)) kept) ≡ None → IsOne kept
+    by_case true e = cc e
+    by_case false e = one_of_bits m out (output_read m (names ins out cover)) kept e
+one_kept_of m (latch d q clocking init) kept none e = one_of_bits m q None kept e
+one_kept_of m (subckt model binds) kept none e = cc none
+
 pub kept_decide : (m : Model) (s : Statement) (kept : FirstBits) → KeptBitsDecide m s kept
 kept_decide m s kept none h =
     let d = decides m s kept none h in (
       (λ bit e. has_one m s bit (subst (AreFirstBits (IsBitOf m s)) e h)),
       (λ one other e. has_two m s one other (subst (AreFirstBits (IsBitOf m s)) e h)),
       d.0,
+      one_kept_of m s kept none,
       d.1,
     )

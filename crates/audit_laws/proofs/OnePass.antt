@@ -7,14 +7,15 @@ use Rattle.netlist_spec.specs.Netlist.{Statement, names, latch, subckt, Located,
 use Rattle.netlist_spec.specs.Models.{Gate, as_gate, gates_of}
 use Rattle.netlist_spec.specs.FileRules.{NeverFall, HaveLines, IsFile}
 use Rattle.netlist_spec.specs.Ordered.{IsOrdered}
-use Rattle.netlist_spec.specs.CellBits.{Bit, IsBitOf, IsGateBit, IsIndependentCell, cells_of, Finding, FindsOf}
-use Rattle.audit_laws.specs.FirstBits.{AreFirstBits}
+use Rattle.netlist_spec.specs.CellBits.{Bit, IsBitOf, IsGateBit, HasOneBit, IsIndependentCell, cells_of, Finding, FindsOf}
+use Rattle.netlist_spec.proofs.OneValue.{none_both}
+use Rattle.audit_laws.specs.FirstBits.{one_bit, AreFirstBits}
 use Rattle.audit_laws.specs.Along.{IsBitAlong, AreInOrder, bits_along}
 use Rattle.audit_laws.specs.OnePass.{gates_among_cells, cell_bits, finding_of, first_finding, IsNoSubckt, AuditsInOnePass}
 use Rattle.audit_laws.proofs.FirstBits.{moved, latch_are}
 use Rattle.audit_laws.proofs.GateOrder.{model_in_order, cells_are_no_subckt, no_fault_of}
 use Rattle.audit_laws.proofs.Along.{along_later, kept_along}
-use Rattle.audit_laws.proofs.Findings.{decides}
+use Rattle.audit_laws.proofs.Findings.{decides, has_one, one_kept_of}
 
 gates_of_cells : (ss : List Located) → filter_map (λ s. as_gate s.what) ss ≡ gates_among_cells (map (λ s. s.what) ss)
 gates_of_cells [] = refl
@@ -71,6 +72,22 @@ passed m (s ∷ later) each none =
     let here = decides m s (cell_bits m later s) none.0 (each [] s later refl) in
     one_more m s later (finding_of m s (cell_bits m later s)) (first_finding m later) here.0 here.1 (passed m later (λ before x rest e. each (s ∷ before) x rest (ap (λ ss. s ∷ ss) e)) none.1)
 
+-- where nothing is found in some cells, nothing is found of each
+none_at : (m : Model) (before : List Statement) (s : Statement) (later : List Statement) → first_finding m (before ++ s ∷ later) ≡ None → finding_of m s (cell_bits m later s) ≡ None
+none_at m [] s later e = (none_both _ _ e).0
+none_at m (x ∷ before) s later e = none_at m before s later (none_both _ _ e).1
+
+no_subckt_at : (before : List Statement) (s : Statement) (later : List Statement) → AllByRecursion (λ x. IsNoSubckt x) (before ++ s ∷ later) → IsNoSubckt s
+no_subckt_at [] s later a = a.0
+no_subckt_at (x ∷ before) s later a = no_subckt_at before s later a.1
+
+one_each : (m : Model) (order : AreInOrder (gates_of m)) → AllByRecursion (λ x. IsNoSubckt x) (cells_of m) → first_finding m (cells_of m) ≡ None → (before : List Statement) (s : Statement) (later : List Statement) → cells_of m ≡ before ++ s ∷ later
+    → (bit : Bit) × (cell_bits m later s ≡ one_bit bit) × HasOneBit m s bit
+one_each m order free e before s later split =
+    let none = none_at m before s later (subst (λ ss. first_finding m ss ≡ None) split e) in
+    let one = one_kept_of m s (cell_bits m later s) (no_subckt_at before s later (subst (AllByRecursion (λ x. IsNoSubckt x)) split free)) none in
+    (one.0, one.1, has_one m s one.0 (subst (AreFirstBits (IsBitOf m s)) one.1 (cell_kept m order before s later split)))
+
 pub in_one_pass : (file : File) (low : ℕ) (high : Option ℕ) (ordered : IsOrdered file) → NeverFall low high (map (λ s. s.line) ordered.model.statements) → AuditsInOnePass file ordered.model
 in_one_pass file low high o lines =
     let m = o.model in
@@ -80,6 +97,7 @@ in_one_pass file low high o lines =
     record {
       kept = cell_kept o.model order;
       nothing = λ e. subst (λ ms. AllByRecursion (λ m. AllByRecursion (IsIndependentCell m) (cells_of m)) ms) (sym o.one_model) (told.0 e, tt);
+      one_each = one_each o.model order (cells_are_no_subckt o.model free);
       something = λ finding e. let f = told.1 finding e in record { before = f.before; cell = f.cell; after = f.after; split = f.split; found = f.found; none_before = f.none_before };
     }
 

@@ -53,19 +53,23 @@ first_finding m (s ∷ later) = option_or (finding_of m s (cell_bits m later s))
 abbrev pub IsNoSubckt : Statement → Type 0
 IsNoSubckt s = is_subckt (a_statement s) ≡ false
 
--- What is kept decides whether the cell has one bit, and what is found of it.
+-- What is kept decides whether the cell has one bit, and what is found of it. Where nothing is found, one bit is kept.
 abbrev pub KeptBitsDecide : Model → Statement → FirstBits → Type 0
 KeptBitsDecide m s kept =
     IsNoSubckt s → AreFirstBits (IsBitOf m s) kept
     → ((bit : Bit) → kept ≡ one_bit bit → HasOneBit m s bit)
     × ((one other : Bit) → kept ≡ two_bits one other → HasTwoBits m s one other)
     × (finding_of m s kept ≡ None → IsIndependentCell m s)
+    × (finding_of m s kept ≡ None → (bit : Bit) × (kept ≡ one_bit bit))
     × ((finding : Finding) → finding_of m s kept ≡ Some finding → FindsOf m s finding)
 
--- In an ordered file whose statements stand by their lines, the pass finds what an audit finds, and each cell's bits.
+-- In an ordered file whose statements stand by their lines, the pass finds what an audit finds, and each cell's bits: where
+-- it finds nothing, one bit of each cell.
 pub record AuditsInOnePass (file : File) (m : Model) : Type 0 where
   pub kept : (before : List Statement) (s : Statement) (later : List Statement) → cells_of m ≡ before ++ s ∷ later → AreFirstBits (IsBitOf m s) (cell_bits m later s)
   pub nothing : first_finding m (cells_of m) ≡ None → IsIndependent file
+  pub one_each : first_finding m (cells_of m) ≡ None → (before : List Statement) (s : Statement) (later : List Statement) → cells_of m ≡ before ++ s ∷ later
+      → (bit : Bit) × (cell_bits m later s ≡ one_bit bit) × HasOneBit m s bit
   pub something : (finding : Finding) → first_finding m (cells_of m) ≡ Some finding → IsFinding m finding
 
 abbrev pub OrderedFilesAuditInOnePass : File → ℕ → Option ℕ → Type 0

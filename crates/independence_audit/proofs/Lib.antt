@@ -1,0 +1,5 @@
+pub mod TableLemmas
+pub mod PassLemmas
+pub mod KnownLemmas
+pub mod TellLemmas
+pub mod AuditLemmas

@@ -1,0 +1,5 @@
+pub mod Kept
+pub mod Table
+pub mod Known
+pub mod Audited
+pub mod Told
