@@ -1,0 +1,4 @@
+pub mod Firsts
+pub mod ClockLemmas
+pub mod NameLemmas
+pub mod CountLemmas

@@ -1,0 +1,3 @@
+pub mod Clocking
+pub mod Counts
+pub mod Reserved

@@ -1,0 +1,4 @@
+pub mod ChainLemmas
+pub mod MarkLemmas
+pub mod RowLemmas
+pub mod VisitLemmas

@@ -1,0 +1,3 @@
+pub mod StateLemmas
+pub mod OrderLemmas
+pub mod WalkLemmas
