@@ -1,3 +1,4 @@
+use linear_layer::find_in_byte_order;
 use settings::{Mode, SetFault, TooSmall, read, strength};
 use std::test::Fail;
 
@@ -217,7 +218,22 @@ fn faults_of_libraries(rt: HostRuntime) -> Result<(), Fail> {
             "S3",
             "sbox.a.values",
         ),
+        (
+            "[sbox.\"a.b\"]\ninputs = 1\noutputs = 0",
+            "S3",
+            "sbox.a.b.outputs",
+        ),
+        (
+            "[sbox.'a\"']\ninputs = 1\noutputs = 1\nvalues = [0]",
+            "S3",
+            "sbox.a\".values",
+        ),
         ("[linear.l]\nspeed = 1", "S2", "linear.l.rows"),
+        (
+            "[linear.b]\nrows = []\n[linear.a]\nrows = [\"1\"]\nwidth = 1",
+            "S4",
+            "linear.a.width",
+        ),
         ("[linear.l]\nrows = []", "S3", "linear.l.rows"),
         ("[linear.l]\nrows = \"1\"", "S3", "linear.l.rows"),
         ("[linear.l]\nrows = [\"\"]", "S3", "linear.l.rows"),
@@ -277,20 +293,42 @@ fn a_library_is_read(rt: HostRuntime) -> Result<(), Fail> {
     Ok(())
 }
 
-// 10,000 layers, which are read and kept in byte order, `x10` before `x2`.
-#[test]
-fn many_entries(rt: HostRuntime) -> Result<(), Fail> {
-    let mut bytes = with_library(&rt, "[linear]\n")?;
-    for i in 0..10_000u32 {
-        let entry = format!(in rt.alloc(); "x{i}.rows = [\"1\"]\n")?;
+// The bytes of 5,000 S-boxes `s0`, `s1`, .. and as many layers `l0`, `l1`, ..
+fn ten_thousand_entries(rt: &HostRuntime) -> Result<Vec<u8>, Fail> {
+    let mut bytes = with_library(rt, "")?;
+    for i in 0..5_000u32 {
+        let entry = format!(in rt.alloc();
+            "sbox.s{i} = {{inputs = 1, outputs = 1, values = [0, 1]}}\nlinear.l{i}.rows = [\"1\"]\n"
+        )?;
         bytes.extend_from_slice(entry.as_bytes())?;
     }
+    Ok(bytes)
+}
+
+// 10,000 entries are read and kept in byte order, `l10` before `l2`; one more layer with the name of an S-box is refused.
+#[test]
+fn many_entries(rt: HostRuntime) -> Result<(), Fail> {
+    let mut bytes = ten_thousand_entries(&rt)?;
     match read(rt.alloc(), &bytes) {
         Ok(settings) => {
-            assert_eq!(rt; settings.linears.len(), 10_000);
-            assert!(rt; settings.linears[2].name.bytes() == b"x10".as_slice());
+            assert_eq!(rt;
+                (settings.tables.len(), settings.linears.len()),
+                (5_000, 5_000)
+            );
+            assert!(rt; settings.tables[2].name.bytes() == b"s10".as_slice());
+            assert!(rt; settings.linears[2].name.bytes() == b"l10".as_slice());
+            match find_in_byte_order(&settings.linears, b"l4999") {
+                Some(found) => assert!(rt; found.name.bytes() == b"l4999".as_slice()),
+                None => assert!(rt; false, "not found"),
+            }
+            assert!(rt; find_in_byte_order(&settings.linears, b"l5000").is_none());
         }
         Err(_) => assert!(rt; false, "refused"),
+    }
+    bytes.extend_from_slice(b"linear.s4999.rows = [\"1\"]\n")?;
+    match read(rt.alloc(), &bytes) {
+        Ok(_) => assert!(rt; false, "accepted"),
+        Err(fault) => assert!(rt; key(&fault) == b"linear.s4999".as_slice()),
     }
     Ok(())
 }
@@ -315,12 +353,25 @@ fn names_have_at_most_255_bytes(rt: HostRuntime) -> Result<(), Fail> {
         Ok(_) => assert!(rt; false, "accepted"),
         Err(fault) => assert!(rt; code_name(&fault) == "S3"),
     }
-    let mut entry = with_library(&rt, "[sbox.")?;
-    for _ in 0..256u16 {
-        entry.push(b'a')?;
+    Ok(())
+}
+
+// An S-box that is as it must be, with a name of so many `a`.
+fn long_entry(rt: &HostRuntime, len: usize) -> Result<Vec<u8>, Fail> {
+    let mut bytes = with_library(rt, "[sbox.")?;
+    for _ in 0..len {
+        bytes.push(b'a')?;
     }
-    entry.extend_from_slice(b"]\ninputs = 9\n")?;
-    match read(rt.alloc(), &entry) {
+    bytes.extend_from_slice(b"]\ninputs = 1\noutputs = 1\nvalues = [0, 1]\n")?;
+    Ok(bytes)
+}
+
+#[test]
+fn entries_have_names_of_at_most_255_bytes(rt: HostRuntime) -> Result<(), Fail> {
+    let short = long_entry(&rt, 255)?;
+    assert!(rt; read(rt.alloc(), &short).is_ok());
+    let long = long_entry(&rt, 256)?;
+    match read(rt.alloc(), &long) {
         Ok(_) => assert!(rt; false, "accepted"),
         Err(fault) => {
             assert!(rt; code_name(&fault) == "S3");
