@@ -1,0 +1,5 @@
+//! Tests of `independence_audit`, by its public calls.
+#![tactic(auto)]
+
+#[cfg(test)]
+mod tests;
