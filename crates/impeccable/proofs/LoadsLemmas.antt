@@ -1,7 +1,7 @@
 -- Loads of files that a test reads: how a command passes them, what stops it there, and loads after others.
-use Rattle.std.proofs.Common.{◌≡◌, ℕ, ◌+◌, ◌<◌, ◌≤◌, List, [], length, Ok, Err, Some, None, refl, sym, subst, ◌∙◌, inl, inr, arith}
-use Rattle.std.specs.Prelude.{◌⊎◌, Option, MatchOption, IsSome, IsSomeAnd, Result}
-use Rattle.imp_io.specs.Counts.{Rose, RoseBy}
+use Rattle.std.proofs.Common.{◌≡◌, ℕ, ◌+◌, ◌<◌, ◌≤◌, List, [], length, Err, Some, None, refl, sym, subst, ◌∙◌, inl, inr, arith}
+use Rattle.std.specs.Prelude.{◌⊎◌, Option, MatchOption, IsSome, IsSomeAnd}
+use Rattle.imp_io.specs.Counts.{RoseBy}
 use Rattle.imp_io.specs.Files.{FilesSeen, IsLater, bytes_at, own_count}
 use Rattle.imp_io.specs.Sink.{SinkSeen}
 use Rattle.program_spec.specs.Commands.{Command}
@@ -12,7 +12,7 @@ use Rattle.program_spec.specs.ErrorLines.{Answer, done, found, usage, refused, r
 use Rattle.impeccable.specs.declared.ended.Stop.{Stop}
 use Rattle.impeccable.specs.Answers.{Answers, KeepsOwn, TookTooMuch}
 use Rattle.impeccable.specs.Ended.{fault_answer, stop_answer}
-use Rattle.impeccable.specs.Loads.{IsOfContents, LoadsTested, StopsLoad, WhereHeld}
+use Rattle.impeccable.specs.Loads.{IsOfContents, StopsLoad, WhereHeld}
 use Rattle.impeccable.specs.Outcome.{refusal_of}
 use Rattle.impeccable.specs.Steps.{LoadsNamed, Passed, Stops}
 use Rattle.impeccable.specs.declared.ended.Stop.TheVariants.{Usage, Refused, ReadFault, WriteFault, NoMemory}

@@ -4,11 +4,10 @@ use Rattle.std.proofs.lemmas.List.{length-take-le, take_more}
 use Rattle.std.proofs.lemmas.Option.{get_or_from_slice_get, slice_get_within}
 use Rattle.std.proofs.Common.{◌≡◌, ℕ, ◌+◌, ◌<◌, ◌≤◌, List, [], ◌∷◌, ◌++◌, length, take, Ok, Err, Some, None, refl, sym, subst, ap, ◌∙◌, inr, append-nil, arith}
 use Rattle.std.specs.Prelude.{Option, IsSome, IsSomeAnd, Result, slice_get}
-use Rattle.std.specs.List.{flat_map}
 use Rattle.std.proofs.lemmas.Grind.{flat_map-append}
 use Rattle.imp_io.specs.Files.{FilesSeen, IsLater, bytes_at}
 use Rattle.netlist_spec.specs.Netlist.{Name, Model, File}
-use Rattle.netlist_spec.specs.Models.{main_model, first_model, data_inputs}
+use Rattle.netlist_spec.specs.Models.{main_model, data_inputs}
 use Rattle.netlist_spec.specs.Ordered.{IsOrdered, OrderFault, order_fault, cell_nets}
 use Rattle.netlist_spec.specs.Reads.{Reads}
 use Rattle.netlist_spec.specs.Runs.{Fault, Run, forced_at}
@@ -27,12 +26,12 @@ use Rattle.fault_script.specs.Scripts.{HasFaults, Scripted, faults_in}
 use Rattle.fault_sim.specs.Faults.{named_faults}
 use Rattle.fault_sim.specs.HasRun.{HasRun}
 use Rattle.fault_sim.specs.Simulated.{CycleUnder, HasModel, Simulated, Simulates}
-use Rattle.program_spec.specs.Commands.{Command, sim, netlist_limit, other_limit}
+use Rattle.program_spec.specs.Commands.{sim, netlist_limit, other_limit}
 use Rattle.program_spec.specs.Printed.{IsRunText, bits_text, outputs_text, run_text}
 use Rattle.program_spec.specs.Refusals.{bad_script_line, bad_stimulus, out_of_order}
 use Rattle.program_spec.specs.ErrorLines.{Answer, refused}
 use Rattle.program_spec.specs.Walk.{Walk, end, load, test}
-use Rattle.program_spec.specs.Steps.{Nothing, gives, main_of, order_of, reading, script_in, stimulus_in}
+use Rattle.program_spec.specs.Steps.{gives, reading, script_in, stimulus_in}
 use Rattle.program_spec.specs.Verdict.{IsSimText, walk_of}
 use Rattle.impeccable.specs.declared.ended.Stop.{Stop}
 use Rattle.impeccable.specs.declared.sim.Simulation.{Simulation}
@@ -40,36 +39,23 @@ use Rattle.impeccable.specs.Ended.{fault_answer, script_answer, stimulus_answer,
 use Rattle.impeccable.specs.Loads.{StopsLoad, WhereHeld}
 use Rattle.impeccable.specs.Sim.{IsCycle, IsSame, IsTextOf, Ran}
 use Rattle.impeccable.specs.Steps.{Passed, Stops}
+use Rattle.impeccable.proofs.OrderedLemmas.{IsHeld, of_file, file-read, file-ordered, file-unread, file-unordered, reads}
 use Rattle.impeccable.proofs.LoadsLemmas.{held-earlier, held-loaded, stops-earlier, tested-passes, tested-stops}
-use Rattle.impeccable.proofs.StepLemmas.{starts, test-passes, fault-stops}
+use Rattle.impeccable.proofs.StepLemmas.{starts}
 
--- what is left of the walk behind the reading, behind the order of lines, and behind the stimulus
+-- what is left of the walk behind the order of lines and behind the stimulus
 abbrev pub of_script : List ℕ → Model → Walk
 of_script script m = load script other_limit (λ lines. test (List Fault) (script_in m lines) (λ faults. end))
 
 abbrev pub of_stimulus : List ℕ → List ℕ → Model → Walk
 of_stimulus stimulus script m = load stimulus other_limit (λ text. test Stream (stimulus_in m text) (λ xs. of_script script m))
 
-abbrev pub of_file : List ℕ → List ℕ → File → Walk
-of_file stimulus script file = test Nothing (order_of file) (λ ordered. test Model (main_of file) (of_stimulus stimulus script))
-
 -- what was made of the netlist stands for what its test finds
-pub read : (n s t : List ℕ) (old : FilesSeen) (file : File) → (found : File) × (file ≡ found) × WhereHeld old n (λ bytes. (length bytes ≤ netlist_limit) × Reads bytes found) → Passed old (walk_of (sim n s t)) (of_file s t file)
-read n s t old file (found, same, held) =
-    subst (λ f. Passed old (walk_of (sim n s t)) (of_file s t f)) (sym same)
-    (tested-passes old (walk_of (sim n s t)) n netlist_limit File reading (of_file s t) found (starts old (walk_of (sim n s t))) held)
+pub read : (n s t : List ℕ) (old : FilesSeen) (file : File) → (found : File) × (file ≡ found) × IsHeld old n found → Passed old (walk_of (sim n s t)) (of_file (of_stimulus s t) file)
+read n s t old file made = file-read (sim n s t) n (of_stimulus s t) old file (starts old (walk_of (sim n s t))) (reads n old file made)
 
-pub reads : (n : List ℕ) (old : FilesSeen) (file : File) → (found : File) × (file ≡ found) × WhereHeld old n (λ bytes. (length bytes ≤ netlist_limit) × Reads bytes found) → WhereHeld old n (λ bytes. (length bytes ≤ netlist_limit) × Reads bytes file)
-reads n old file (found, same, held) = subst (λ (f : File). WhereHeld old n (λ bytes. (length bytes ≤ netlist_limit) × Reads bytes f)) (sym same) held
-
-pub is-main : (file : File) (ordered : IsOrdered file) → main_model file ≡ Some ordered.model
-is-main file ordered = ap first_model ordered.one_model
-
-pub in-order : (n s t : List ℕ) (old : FilesSeen) (file : File) (ordered : IsOrdered file) → Passed old (walk_of (sim n s t)) (of_file s t file) → Passed old (walk_of (sim n s t)) (of_stimulus s t ordered.model)
-in-order n s t old file ordered p =
-    test-passes old (walk_of (sim n s t)) Model (main_of file) (of_stimulus s t) ordered.model
-    (test-passes old (walk_of (sim n s t)) Nothing (order_of file) (λ ordered. test Model (main_of file) (of_stimulus s t)) tt p ordered.no_fault)
-    (is-main file ordered)
+pub in-order : (n s t : List ℕ) (old : FilesSeen) (file : File) (ordered : IsOrdered file) → Passed old (walk_of (sim n s t)) (of_file (of_stimulus s t) file) → Passed old (walk_of (sim n s t)) (of_stimulus s t ordered.model)
+in-order n s t old file ordered p = file-ordered (sim n s t) n (of_stimulus s t) old file ordered p
 
 -- the stimulus of a later load, for as many data inputs as the model has
 pub drives : (s : List ℕ) (old mid : FilesSeen) (inputs : ℕ) (m : Model) (cycles : Stream) → IsLater old mid → inputs ≡ length (data_inputs m) → (found : Stream) × (cycles ≡ found) × WhereHeld mid s (λ bytes. (length bytes ≤ other_limit) × (stimulus_of inputs bytes ≡ Ok found))
@@ -95,15 +81,10 @@ scripted n s t old m faults p held = tested-passes old (walk_of (sim n s t)) t o
 -- ---- what stops it
 
 pub unread : (n s t : List ℕ) (old new : FilesSeen) (stop : Stop) → StopsLoad File old n netlist_limit reading (stop_answer stop) new → Stops (sim n s t) old stop new
-unread n s t old new stop h = tested-stops (sim n s t) old new n netlist_limit File reading (of_file s t) stop (starts old (walk_of (sim n s t))) h
+unread n s t old new stop h = file-unread (sim n s t) n (of_stimulus s t) old new stop (starts old (walk_of (sim n s t))) h
 
-is-order-fault : (file : File) (fault : Option OrderFault) → IsFault (order_fault file) fault → (f : OrderFault) → fault ≡ Some f → order_fault file ≡ Some f
-is-order-fault file None h f e = absurd (cc)
-is-order-fault file (Some g) h f e = h ∙ e
-
-pub out-of-order : (n s t : List ℕ) (old new : FilesSeen) (file : File) (fault : Option OrderFault) (stop : Stop) → Passed old (walk_of (sim n s t)) (of_file s t file) → IsFault (order_fault file) fault → stop_answer stop ≡ fault_answer OrderFault out_of_order fault → Stops (sim n s t) old stop new
-out-of-order n s t old new file fault stop p h =
-    fault-stops (sim n s t) old new Nothing OrderFault (order_of file) (λ ordered. test Model (main_of file) (of_stimulus s t)) out_of_order fault stop p (λ f e. (f, is-order-fault file fault h f e, refl)) (λ f. tt)
+pub out-of-order : (n s t : List ℕ) (old new : FilesSeen) (file : File) (fault : Option OrderFault) (stop : Stop) → Passed old (walk_of (sim n s t)) (of_file (of_stimulus s t) file) → IsFault (order_fault file) fault → stop_answer stop ≡ fault_answer OrderFault out_of_order fault → Stops (sim n s t) old stop new
+out-of-order n s t old new file fault stop p h = file-unordered (sim n s t) n (of_stimulus s t) old new file fault stop p h
 
 pub not-driven : (n s t : List ℕ) (old mid new : FilesSeen) (inputs : ℕ) (m : Model) (stop : Stop) → Passed old (walk_of (sim n s t)) (of_stimulus s t m) → IsLater old mid → inputs ≡ length (data_inputs m)
     → StopsLoad Stream mid s other_limit (λ bytes. gives Stream ℕ (stimulus_of inputs bytes) bad_stimulus) (stop_answer stop) new → Stops (sim n s t) old stop new

@@ -8,3 +8,4 @@ pub mod Flat
 pub mod Code
 pub mod Loads
 pub mod Sim
+pub mod Audit

@@ -18,6 +18,9 @@ pub(crate) enum Command<'a> {
         stimulus: &'a str,
         script: &'a str,
     },
+    Audit {
+        netlist: &'a str,
+    },
 }
 
 /// The command that the words spell, if they spell one.
@@ -35,6 +38,9 @@ pub(crate) fn read_command<'a>(words: &'a [String]) -> Option<Command<'a>>
             netlist: netlist.as_str(),
             stimulus: stimulus.as_str(),
             script: script.as_str(),
+        }),
+        [first, netlist] if first.as_str() == "audit" => Some(Command::Audit {
+            netlist: netlist.as_str(),
         }),
         _ => None,
     }

@@ -6,8 +6,8 @@ use crate::{Outcome, Refusal};
 use blif_read::BlifFault;
 use blif_write::WriteRefusal;
 use fault_script::ScriptFault;
-use fault_sim::SimFault;
 use imp_io::SinkFault;
+use line_order::OrderFault;
 use settings::SetFault;
 use sim_text::StimFault;
 use std::alloc::AllocError;
@@ -137,20 +137,20 @@ impl<'a> From<SetFault> for Stop<'a> {
     }
 }
 
-impl<'a> From<SimFault> for Stop<'a> {
+impl<'a> From<OrderFault> for Stop<'a> {
     ghost use Rattle.std.specs.Prelude.{◌≡◌};
     ghost use Rattle.line_order.specs.Faults.{fault_of};
-    ghost use Rattle.netlist_spec.specs.Ordered.{OrderFault};
+    ghost use Rattle.netlist_spec.specs.Ordered.{OrderFault as SpecFault};
     ghost use Rattle.program_spec.specs.Refusals.{out_of_order};
     ghost use Rattle.impeccable.specs.Ended.{fault_answer, stop_answer};
 
-    ghost from_gives = { λ fault stop. stop_answer stop ≡ fault_answer OrderFault out_of_order (fault_of fault) };
+    ghost from_gives = { λ fault stop. stop_answer stop ≡ fault_answer SpecFault out_of_order (fault_of fault) };
 
-    fn from(fault: SimFault) -> Self {
+    fn from(fault: OrderFault) -> Self {
         match fault {
-            SimFault::Unordered(line) => Stop::Refused(Refusal::Unordered(line)),
-            SimFault::HasSubckt(line) => Stop::Refused(Refusal::HasSubckt(line)),
-            SimFault::NoMemory => Stop::NoMemory,
+            OrderFault::Unordered(line) => Stop::Refused(Refusal::Unordered(line)),
+            OrderFault::HasSubckt(line) => Stop::Refused(Refusal::HasSubckt(line)),
+            OrderFault::NoMemory => Stop::NoMemory,
         }
     }
 }

@@ -1,6 +1,7 @@
 //! The program as one call: words and files in, a text and an outcome out.
 #![tactic(auto)]
 
+mod audit;
 mod code;
 mod command;
 mod ended;

@@ -10,6 +10,7 @@ ghost use Rattle.impeccable.specs.Outcome.{IsAnswer};
 ghost use Rattle.impeccable.specs.Says.{Says};
 
 use crate::Outcome;
+use crate::audit::write_audit;
 use crate::code::report_code;
 use crate::command::{Command, read_command};
 use crate::ended::{Ended, Stop, outcome_of};
@@ -20,8 +21,8 @@ use imp_io::{Files, Sink};
 use std::alloc::Global;
 
 /// What the words ask for, over any files and sinks. The words are those of a command line without the program's
-/// own name: so far `flat NETLIST`, `code SETTINGS` and
-/// `sim NETLIST STIMULUS SCRIPT`.
+/// own name: so far `flat NETLIST`, `code SETTINGS`,
+/// `sim NETLIST STIMULUS SCRIPT` and `audit NETLIST`.
 pub fn run<F: Files, O: Sink, E: Sink>(
     alloc: Global,
     words: &[String],
@@ -81,5 +82,6 @@ fn perform<'a, F: Files, O: Sink>(
             stimulus,
             script,
         } => write_run(alloc, netlist, stimulus, script, files, out),
+        Command::Audit { netlist } => write_audit(alloc, netlist, files, out),
     }
 }

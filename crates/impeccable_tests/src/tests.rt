@@ -340,6 +340,8 @@ fn words_of_no_command(rt: HostRuntime) -> Result<(), Fail> {
         "flat a b",
         "flatten e.blif",
         "guard a",
+        "audit",
+        "audit a b",
         "sim a b",
         "sim a b c d",
     ] {
@@ -427,6 +429,11 @@ fn puts_that_fail(rt: HostRuntime) -> Result<(), Fail> {
             "code m",
             "mode = \"detect\"\nbound = 1\ncheck = [\"0111\", \"0111\"]\n",
             "code 6 2\ndistance 2\nword 11\ndetects 1\ncorrects 0\n",
+        ),
+        (
+            "audit m",
+            APART,
+            "independent 4\na latch a\nb latch b\nn latch a\ny output y\n",
         ),
     ];
     for (line, text, whole) in cases {
@@ -687,6 +694,20 @@ fn netlists_are_simulated(rt: HostRuntime) -> Result<(), Fail> {
             "5 a3 1\n1 c1 1\n",
             "0000\n1000\n0110\n1110\n0001\n1001\n",
         ),
+        // The example of the README.
+        (
+            COUNTER,
+            "# Six cycles of the counter, which has no data inputs.\n-\n-\n-\n-\n-\n-\n",
+            "# In cycle 5, the last one, the latch a0 gives 0.\n5 a0 0\n",
+            "0000\n1000\n0100\n1100\n0010\n0010\n",
+        ),
+        // Names with a backslash.
+        (
+            ".model h\n.inputs a\\b\n.outputs \\y\n.latch n \\q 1\n.names a\\b n\n0 1\n.names \\q \\y\n1 1\n.end\n",
+            "0\n1\n0\n",
+            "2 \\q 1\n",
+            "1\n1\n1\n",
+        ),
         // Faults past the stream have no effect.
         (INVERTER, "-\n-\n", "9 q 1\n999999 n 1\n", "0\n1\n"),
         // Comments, carriage returns and empty lines.
@@ -826,6 +847,52 @@ fn simulations_are_refused(rt: HostRuntime) -> Result<(), Fail> {
     Ok(())
 }
 
+// The line at fault of each file, with an earlier and a later fault beside it.
+#[test]
+fn lines_of_simulations_are_told(rt: HostRuntime) -> Result<(), Fail> {
+    let alloc = rt.alloc();
+    let two = ".model w\n.inputs a b\n.outputs y\n.names a b y\n11 1\n.end\n";
+    let cases = [
+        (
+            ".model m\n.inputs a\n.outputs y\n.subckt s\n.names b y\n1 1\n.end\n",
+            "0\n",
+            "",
+            "M2 line 4 has subckt",
+        ),
+        (
+            ".model m\n.inputs a\n.outputs y\n.names b y\n1 1\n.subckt s\n.end\n",
+            "0\n",
+            "",
+            "M1 line 4 unordered",
+        ),
+        (
+            ".model m\n.inputs c\n.outputs q\n.latch q q re c 0\n.latch q p fe c 0\n.end\n",
+            "-\n",
+            "",
+            "M1 line 5 unordered",
+        ),
+        (two, "1\n", "", "M3 line 1 bad stimulus"),
+        (two, "11\n111\n", "", "M3 line 2 bad stimulus"),
+        (two, "12\n", "", "M3 line 1 bad stimulus"),
+        (two, "-\n", "", "M3 line 1 bad stimulus"),
+        (two, "11\n", "0 a 1\n", "M5 line 1 no such cell"),
+        (INVERTER, "-\n", "1 q 0 0\n", "M4 line 1 bad script"),
+    ];
+    for (netlist, stimulus, script, told) in cases {
+        let mut files = Three {
+            netlist: netlist.as_bytes(),
+            stimulus: stimulus.as_bytes(),
+            script: script.as_bytes(),
+        };
+        let ran = simulate(alloc, "sim n s t", &mut files, Vec::new(alloc))?;
+        let text = format!(in alloc; "impeccable: {told}\n")?;
+        assert_eq!(rt; ran.err.bytes(), text.as_bytes());
+        assert_eq!(rt; ran.out.bytes(), b"".as_slice());
+        assert_eq!(rt; ran.status, 1);
+    }
+    Ok(())
+}
+
 // Seventeen cells, all of them faulty in cycle 0.
 #[test]
 fn seventeen_faults_in_a_cycle(rt: HostRuntime) -> Result<(), Fail> {
@@ -848,5 +915,122 @@ fn seventeen_faults_in_a_cycle(rt: HostRuntime) -> Result<(), Fail> {
     );
     assert_eq!(rt; ran.out.bytes(), b"".as_slice());
     assert_eq!(rt; ran.status, 1);
+    Ok(())
+}
+
+// A cell that two latches share, and one for each.
+const SHARED: &str =
+    "# Two latches that store one net: the cell of that net serves both.\n.model shared\n.inputs x\n.outputs y\n\
+    .latch n a 0\n.latch n b 0\n.names x n\n1 1\n.names a b y\n11 1\n.end\n";
+
+const APART: &str =
+    ".model h\n.inputs x\n.outputs y\n.latch n a 0\n.latch x b 0\n.names x n\n1 1\n.names a b y\n11 1\n.end\n";
+
+// Audits: the lines of all cells, or that of the first finding.
+#[test]
+fn netlists_are_audited(rt: HostRuntime) -> Result<(), Fail> {
+    let alloc = rt.alloc();
+    let cases: [(&[u8], u8, &[u8]); 11] = [
+        (SHARED.as_bytes(), 6, b"shared n latch a latch b\n"),
+        (
+            APART.as_bytes(),
+            0,
+            b"independent 4\na latch a\nb latch b\nn latch a\ny output y\n",
+        ),
+        (
+            b".model h\n.inputs a b c\n.outputs y\n.names a b c y\n111 1\n.end\n",
+            6,
+            b"wide y\n",
+        ),
+        (
+            b".model h\n.inputs a\n.outputs y\n.names a z\n1 1\n.names a y\n1 1\n.end\n",
+            6,
+            b"unused z\n",
+        ),
+        (
+            b".model h\n.inputs a\n.outputs y z\n.names a y\n1 1\n.names y z\n0 1\n.end\n",
+            6,
+            b"output-read y z\n",
+        ),
+        (b".model e\n.end\n", 0, b"independent 0\n"),
+        (INVERTER.as_bytes(), 6, b"shared q latch q output q\n"),
+        (
+            b".model h\n.inputs a\n.outputs y guard:alarm:0\n.names a y\n1 1\n.names y guard:alarm:0\n0 1\n.end\n",
+            0,
+            b"independent 2\ny output y\nguard:alarm:0 output guard:alarm:0\n",
+        ),
+        // Names are printed as they are.
+        (
+            b".model h\n.inputs \\a\n.outputs y\\x41\xff\n.latch n \\q\\ 0\n.names \\a n\n1 1\n.names \\q\\ y\\x41\xff\n0 1\n.end\n",
+            0,
+            b"independent 3\n\\q\\ latch \\q\\\nn latch \\q\\\ny\\x41\xff output y\\x41\xff\n",
+        ),
+        (
+            b".model h\n.inputs a\n.outputs \\y z\x80\n.names a \\y\n1 1\n.names \\y z\x80\n0 1\n.end\n",
+            6,
+            b"output-read \\y z\x80\n",
+        ),
+        (
+            b".model h\n.inputs a\n.outputs u v\n.latch \\n q 0\n.names a \\n\n1 1\n.names \\n u\n1 1\n.names \\n v\n1 1\n.end\n",
+            6,
+            b"shared \\n latch q output u\n",
+        ),
+    ];
+    for (text, status, told) in cases {
+        let mut files = held(alloc, "e.blif", text.to_vec(alloc)?, Vec::new(alloc))?;
+        let ran = run_line(alloc, "audit e.blif", &mut files, Vec::new(alloc))?;
+        assert_eq!(rt; ran.err.bytes(), b"".as_slice());
+        assert_eq!(rt; ran.out.bytes(), told);
+        assert_eq!(rt; ran.status, status);
+    }
+    Ok(())
+}
+
+// What `audit` tells of netlists that it refuses, and of a load and a put that fail.
+#[test]
+fn audits_are_refused(rt: HostRuntime) -> Result<(), Fail> {
+    let alloc = rt.alloc();
+    let cases = [
+        ("e.blif", "", 1, "B5 line 0 no model"),
+        (
+            "e.blif",
+            ".model c\n.inputs a b\n.outputs y\n.names a b y\n00 0\n11 1\n",
+            1,
+            "B3 line 6 mixed cover",
+        ),
+        (
+            "e.blif",
+            ".model r\n.inputs a\n.outputs y\n.names m y\n0 1\n.names a m\n0 1\n",
+            1,
+            "M1 line 4 unordered",
+        ),
+        (
+            "e.blif",
+            ".model m\n.subckt s\n.end\n.model s\n",
+            1,
+            "M2 line 2 has subckt",
+        ),
+        ("f.blif", ".model e\n", 3, "cannot read f.blif"),
+    ];
+    for (name, text, status, told) in cases {
+        let mut files = held(
+            alloc,
+            "e.blif",
+            text.as_bytes().to_vec(alloc)?,
+            Vec::new(alloc),
+        )?;
+        let line = format!(in alloc; "audit {name}")?;
+        let ran = run_line(alloc, &line, &mut files, Vec::new(alloc))?;
+        assert_eq!(rt; ran.status, status);
+        assert_eq!(rt; ran.out.bytes(), b"".as_slice());
+        let line = format!(in alloc; "impeccable: {told}\n")?;
+        assert_eq!(rt; ran.err.bytes(), line.as_bytes());
+    }
+    let text = SHARED.as_bytes().to_vec(alloc)?;
+    let mut files = held(alloc, "e.blif", text, Vec::new(alloc))?;
+    let ran = run_line(alloc, "audit e.blif", &mut files, vec![in alloc; (1, 3)]?)?;
+    assert_eq!(rt; ran.status, 4);
+    assert_eq!(rt; ran.out.bytes(), b"sha".as_slice());
+    assert_eq!(rt; ran.err.bytes(), b"impeccable: cannot write\n".as_slice());
     Ok(())
 }

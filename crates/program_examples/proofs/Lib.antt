@@ -1,4 +1,5 @@
 pub mod Accepted
+pub mod Audited
 pub mod SmallTexts
 pub mod DemoPlain
 pub mod ConeByTest

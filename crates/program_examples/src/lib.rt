@@ -3,19 +3,21 @@
 
 ghost use Rattle.std.specs.Prelude.{◌≡◌, map, [], ◌∷◌, Err, None, Ok, Some, codes, true, false};
 ghost use Rattle.spec_examples.specs.Examples.{weak_code, inverter_file, parity_code, two_latches};
-ghost use Rattle.program_examples.specs.ProgramExamples.{demo_file, demo_model, four_layout, seventeen_cells, seventeen_lines, inverter_contents};
+ghost use Rattle.program_examples.specs.ProgramExamples.{audited_contents, demo_file, demo_model, four_layout, seventeen_cells, seventeen_lines, inverter_contents};
 ghost use Rattle.netlist_spec.specs.Netlist.{cover_inputs};
 ghost use Rattle.netlist_spec.specs.ReadFaults.{too_many, unknown_statement};
 ghost use Rattle.netlist_spec.specs.SoundFaults.{loop, reserved};
-ghost use Rattle.program_spec.specs.Commands.{code, command_of, flat, is_cycle, is_demo_size, sim};
-ghost use Rattle.program_spec.specs.Verdict.{IsAccepted};
+ghost use Rattle.program_spec.specs.Commands.{audit, code, command_of, flat, is_cycle, is_demo_size, sim};
+ghost use Rattle.program_spec.specs.Verdict.{IsAccepted, IsDoneText, IsFoundText, IsVerdict};
 ghost use Rattle.guard_spec.specs.Codes.{detect, hamming_code};
 ghost use Rattle.program_spec.specs.Demo.{demo_settings};
 ghost use Rattle.netlist_spec.specs.Lines.{plain_lines};
 ghost use Rattle.stimulus_spec.specs.Stimulus.{bad_script, more_than_sixteen, no_such_cell, script_of, stimulus_of};
 ghost use Rattle.program_spec.specs.Printed.{IsFindingText, IsIndependentText, IsReport, IsRunText, report_text, run_text};
 ghost use Rattle.program_spec.specs.ErrorLines.{answer_line, done, error_line, found, no_memory, read_fault as failed_load, refusal_text, refused, usage, write_fault};
-ghost use Rattle.program_spec.specs.Refusals.{too_small, unreadable, unsound};
+ghost use Rattle.program_spec.specs.Refusals.{out_of_order, too_small, unreadable, unsound};
+ghost use Rattle.program_spec.specs.Walk.{passes, refused as refuses};
+ghost use Rattle.netlist_spec.specs.Ordered.{has_subckt};
 ghost use Rattle.guard_spec.specs.Plain.{IsPlain};
 
 /// Lines of stimulus and script aren't joined.
@@ -59,6 +61,7 @@ pub fn small_words_are_commands()
     ensures flat { command_of (codes "flat" ∷ codes "a" ∷ []) ≡ Some (flat (codes "a")) }
     ensures code { command_of (codes "code" ∷ codes "a" ∷ []) ≡ Some (code (codes "a")) }
     ensures sim { command_of (codes "sim" ∷ codes "a" ∷ codes "b" ∷ codes "c" ∷ []) ≡ Some (sim (codes "a") (codes "b") (codes "c")) }
+    ensures audit { command_of (codes "audit" ∷ codes "a" ∷ []) ≡ Some (audit (codes "a")) }
     ensures none { command_of [] ≡ None }
     ensures few { command_of (codes "flat" ∷ []) ≡ None }
     ensures many { command_of (codes "flat" ∷ codes "a" ∷ codes "b" ∷ []) ≡ None }
@@ -74,6 +77,15 @@ pub fn small_texts_are_printed()
     ensures report { IsReport parity_code (codes "code 2 1\ndistance 2\nword 1\ndetects 1\ncorrects 0\n") }
     ensures independent { IsIndependentText (record { models = two_latches (codes "x") ∷ [] }) (codes "independent 4\na latch a\nb latch b\nn latch a\ny output y\n") }
     ensures finding { IsFindingText (record { models = two_latches (codes "n") ∷ [] }) (codes "shared n latch a latch b\n") }
+{}
+
+/// The verdicts and texts of three audits.
+pub fn small_netlists_are_audited()
+    ensures found { IsVerdict (audit (codes "shared.blif")) audited_contents passes
+        × IsFoundText (audit (codes "shared.blif")) audited_contents (codes "shared n latch a latch b\n") }
+    ensures done { IsVerdict (audit (codes "apart.blif")) audited_contents passes
+        × IsDoneText (audit (codes "apart.blif")) audited_contents (codes "independent 4\na latch a\nb latch b\nn latch a\ny output y\n") }
+    ensures refused { IsVerdict (audit (codes "placing.blif")) audited_contents (refuses (out_of_order (has_subckt 2))) }
 {}
 
 /// The line of each kind of answer.

@@ -1,2 +1,3 @@
+pub mod FindingLaws
 pub mod StepLaws
 pub mod WalkLaws

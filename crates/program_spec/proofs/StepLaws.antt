@@ -1,5 +1,6 @@
 -- Each test has one answer, and so each command one verdict.
-use Rattle.std.proofs.Common.{◌≡◌, refl, sym, ◌∙◌, ap, ℕ, List, length, Option, Some, None, Result, Ok, Err}
+use Rattle.std.proofs.Common.{◌≡◌, refl, sym, ◌∙◌, ap, subst, ℕ, List, length, Option, Some, None, Result, Ok, Err}
+use Rattle.std.specs.Prelude.{IsSomeAnd}
 use Rattle.netlist_spec.specs.Netlist.{Model, File}
 use Rattle.netlist_spec.specs.Models.{main_model, data_inputs}
 use Rattle.netlist_spec.specs.ReadFaults.{ReadFault, read_fault}
@@ -10,11 +11,13 @@ use Rattle.netlist_spec.proofs.OneReading.{one_reading}
 use Rattle.netlist_spec.proofs.NoFault.{reads_no_fault}
 use Rattle.guard_spec.specs.SettingsFile.{settings_of_bytes}
 use Rattle.stimulus_spec.specs.Stimulus.{stimulus_of, script_of}
-use Rattle.program_spec.specs.Commands.{Command, flat, code, sim}
+use Rattle.program_spec.specs.Commands.{Command, flat, code, sim, audit}
+use Rattle.program_spec.specs.Printed.{IsIndependentText, IsFindingText}
 use Rattle.program_spec.specs.Refusals.{Refusal, unreadable, bad_settings, out_of_order, bad_stimulus, bad_script_line}
-use Rattle.program_spec.specs.Walk.{Contents, Verdict, refused, passes, IsTest, HasTests, Walk}
+use Rattle.program_spec.specs.Walk.{Contents, Verdict, refused, passes, IsTest, HasTests, Walk, end}
 use Rattle.program_spec.specs.Steps.{IsToldOf, gives, reading, readiness, main_of, order_of, script_in, stimulus_in}
-use Rattle.program_spec.specs.Verdict.{load_ordered, run_walk, walk_of, IsVerdict, IsDoneText, IsFoundText}
+use Rattle.program_spec.specs.Verdict.{IsTextOfFile, load_ordered, run_walk, walk_of, IsVerdict, IsDoneText, IsFoundText}
+use Rattle.program_spec.proofs.FindingLaws.{nothing_found}
 use Rattle.program_spec.proofs.WalkLaws.{one_verdict}
 
 same_some : {A : Type 0} (answer : Option A) (a b : A) → answer ≡ Some a → answer ≡ Some b → a ≡ b
@@ -92,10 +95,24 @@ has_tests (code settings) = λ text short. (gives_test _ _ (settings_of_bytes te
 has_tests (sim netlist stimulus script) =
     ordered_tests netlist (λ file m. run_walk m stimulus script)
     (λ file m. λ text short. (stream_test m text, λ xs is. λ lines few. (script_test m lines, λ faults said. tt)))
+has_tests (audit netlist) = ordered_tests netlist (λ file m. end) (λ file m. tt)
+
+-- ---- one kind of text
+
+audited_once : (bytes text other : List ℕ) → IsTextOfFile IsIndependentText bytes text → IsTextOfFile IsFindingText bytes other → ⊥
+audited_once bytes text other done found =
+    let same : found.file ≡ done.file = one_reading bytes found.file done.file found.reads done.reads in
+    let of_same = subst (λ (file : File). IsFindingText file other) same found.is_text in
+    nothing_found done.file of_same.model of_same.finding of_same.is_model done.is_text.independent of_same.is_finding
+
+audited : (held : Option (List ℕ)) (text other : List ℕ) → IsSomeAnd held (λ bytes. IsTextOfFile IsIndependentText bytes text) → IsSomeAnd held (λ bytes. IsTextOfFile IsFindingText bytes other) → ⊥
+audited None text other done found = done
+audited (Some bytes) text other done found = audited_once bytes text other done found
 
 -- What a command may write is of one kind.
 pub one_kind : (command : Command) (contents : Contents) (text other : List ℕ) → IsDoneText command contents text → IsFoundText command contents other → ⊥
-one_kind command contents text other done found = found
+one_kind (audit netlist) contents text other done found = audited (contents netlist) text other done found
+one_kind _ contents text other done found = found
 
 -- ---- two verdicts
 

@@ -8,6 +8,7 @@ pub data Command : Type 0 where
   flat : (netlist : List ℕ) → Command
   code : (settings : List ℕ) → Command
   sim : (netlist stimulus script : List ℕ) → Command
+  audit : (netlist : List ℕ) → Command
 
 -- The command that the words spell: the first word and the number of words must be its own. Words of a command
 -- that isn't built yet spell none.
@@ -15,6 +16,7 @@ abbrev pub command_of : List (List ℕ) → Option Command
 command_of (word ∷ file ∷ []) =
     if same_name word (codes "flat") then Some (flat file)
     else if same_name word (codes "code") then Some (code file)
+    else if same_name word (codes "audit") then Some (audit file)
     else None
 command_of (word ∷ netlist ∷ stimulus ∷ script ∷ []) = if same_name word (codes "sim") then Some (sim netlist stimulus script) else None
 command_of _ = None

@@ -1,5 +1,5 @@
 -- The texts that commands print.
-use Rattle.std.specs.Prelude.{◌≡◌, ℕ, ◌+◌, ◌-◌, ◌/◌, ◌⊎◌, Some, List, [], ◌∷◌, ◌++◌, length, map, codes, decimal, slice_index_or}
+use Rattle.std.specs.Prelude.{◌≡◌, ℕ, ◌+◌, ◌-◌, ◌/◌, Some, List, [], ◌∷◌, ◌++◌, length, map, codes, decimal, slice_index_or}
 use Rattle.std.specs.List.{AllZip, flat_map, zip}
 use Rattle.netlist_spec.specs.Netlist.{Name, Model, File}
 use Rattle.netlist_spec.specs.Statements.{bit_char}
@@ -87,10 +87,6 @@ pub record IsFindingText (file : File) (text : List ℕ) : Type 0 where
   pub finding : Finding
   pub is_finding : IsFinding model finding
   pub is_text : text ≡ finding_text model finding
-
--- The text of an audit of an ordered file: the bits of its cells, or the first finding.
-abbrev pub IsAuditText : File → List ℕ → Type 0
-IsAuditText file text = IsIndependentText file text ⊎ IsFindingText file text
 
 -- The five lines of a tally: the cells, and how their runs end.
 abbrev pub tally_text : ℕ → Tally → List ℕ

@@ -1,5 +1,5 @@
 -- What a command comes to over the contents of its files, and what it may write where all its steps pass.
-use Rattle.std.specs.Prelude.{◌≡◌, ◌⊎◌, ℕ, List, length, Ok, Some, IsSomeAnd}
+use Rattle.std.specs.Prelude.{◌≡◌, ◌⊎◌, ℕ, List, length, Ok, Some, IsSomeAnd, ⊤}
 use Rattle.netlist_spec.specs.Netlist.{Model, File}
 use Rattle.netlist_spec.specs.Covers.{empty_library}
 use Rattle.netlist_spec.specs.Models.{main_model, data_inputs}
@@ -11,8 +11,8 @@ use Rattle.netlist_spec.specs.WrittenText.{IsFlatText}
 use Rattle.stimulus_spec.specs.Stimulus.{stimulus_of, script_of}
 use Rattle.guard_spec.specs.Words.{Settings, Layout}
 use Rattle.guard_spec.specs.SettingsFile.{settings_of_bytes}
-use Rattle.program_spec.specs.Printed.{IsReport, IsRunText}
-use Rattle.program_spec.specs.Commands.{Command, flat, code, sim, netlist_limit, other_limit}
+use Rattle.program_spec.specs.Printed.{IsReport, IsRunText, IsIndependentText, IsFindingText}
+use Rattle.program_spec.specs.Commands.{Command, flat, code, sim, audit, netlist_limit, other_limit}
 use Rattle.program_spec.specs.Walk.{Contents, Verdict, passes, Walk, end, load, test, ComesTo}
 use Rattle.program_spec.specs.Steps.{reading, readiness, soundness, settings_in, strength, main_of, words_of, smallness, order_of, stimulus_in, script_in}
 
@@ -46,11 +46,9 @@ abbrev pub walk_of : Command → Walk
 walk_of (flat netlist) = load_netlist netlist (λ file. test _ (readiness file) (λ ready. end))
 walk_of (code settings) = load settings other_limit (λ text. test _ (settings_in text) (λ s. end))
 walk_of (sim netlist stimulus script) = load_ordered netlist (λ file m. run_walk m stimulus script)
+walk_of (audit netlist) = load_ordered netlist (λ file m. end)
 
--- of `audit`, and of `campaign`, which begins as `guard`
-abbrev pub audit_walk : List ℕ → Walk
-audit_walk netlist = load_ordered netlist (λ file m. end)
-
+-- of `campaign`, which begins as `guard`
 abbrev pub campaign_walk : List ℕ → List ℕ → List ℕ → Walk
 campaign_walk settings netlist stimulus =
     guard_walk settings netlist (λ file s m l. load stimulus other_limit (λ text. test _ (stimulus_in m text) (λ xs. end)))
@@ -86,6 +84,12 @@ pub record IsSimText (netlist stimulus script text : List ℕ) : Type 0 where
   pub is_script : script_of (cell_nets model) script ≡ Ok faults
   pub is_run : IsRunText file xs faults text
 
+-- The netlist is read as a file, and the text is one of this kind for it.
+pub record IsTextOfFile (IsText : File → List ℕ → Type 0) (netlist text : List ℕ) : Type 0 where
+  pub file : File
+  pub reads : Reads netlist file
+  pub is_text : IsText file text
+
 -- A text that the command may write over these contents, where its verdict passes and it finds nothing.
 abbrev pub IsDoneText : Command → Contents → List ℕ → Type 0
 IsDoneText (flat netlist) contents text = IsSomeAnd (contents netlist) (λ bytes. IsFlatText bytes text empty_library)
@@ -93,13 +97,16 @@ IsDoneText (code settings) contents text = IsSomeAnd (contents settings) (λ byt
 IsDoneText (sim netlist stimulus script) contents text =
     IsSomeAnd (contents netlist) (λ bytes. IsSomeAnd (contents stimulus) (λ rows. IsSomeAnd (contents script) (λ entries.
     IsSimText bytes rows entries text)))
+IsDoneText (audit netlist) contents text = IsSomeAnd (contents netlist) (λ bytes. IsTextOfFile IsIndependentText bytes text)
 
--- Whether a command can find something. None that is built can.
+-- Whether a command can find something.
 abbrev pub MayFind : Command → Type 0
+MayFind (audit netlist) = ⊤
 MayFind _ = ⊥
 
 -- A text that it may write where it does.
 abbrev pub IsFoundText : Command → Contents → List ℕ → Type 0
+IsFoundText (audit netlist) contents text = IsSomeAnd (contents netlist) (λ bytes. IsTextOfFile IsFindingText bytes text)
 IsFoundText _ contents text = ⊥
 
 -- one or the other

@@ -1,5 +1,5 @@
 -- The load, and the reading for the cells of a simulator.
-use Rattle.std.proofs.Common.{◌≡◌, length, ◌≤◌, List, ℕ, Ok, refl}
+use Rattle.std.proofs.Common.{◌≡◌, length, ◌≤◌, List, Ok}
 use Rattle.std.proofs.lemmas.Result.{err_from_is_err_and}
 use Rattle.netlist_spec.specs.Runs.{Fault}
 use Rattle.stimulus_spec.specs.Stimulus.{ScriptFault, script_of}

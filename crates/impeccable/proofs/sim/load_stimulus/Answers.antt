@@ -1,5 +1,5 @@
 -- The load, and the reading for so many data inputs.
-use Rattle.std.proofs.Common.{◌≡◌, length, ◌≤◌, List, ℕ, Ok, refl}
+use Rattle.std.proofs.Common.{◌≡◌, length, ◌≤◌, ℕ, Ok, refl}
 use Rattle.std.proofs.lemmas.Result.{err_from_is_err_and}
 use Rattle.netlist_spec.specs.SourceRun.{Stream}
 use Rattle.stimulus_spec.specs.Stimulus.{stimulus_of}

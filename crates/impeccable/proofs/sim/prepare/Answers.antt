@@ -7,7 +7,8 @@ use Rattle.program_spec.specs.Walk.{passes}
 use Rattle.impeccable.specs.Ended.{stop_answer}
 use Rattle.impeccable.proofs.LoadsLemmas.{own-earlier}
 use Rattle.impeccable.proofs.OwnLemmas.{keeps}
-use Rattle.impeccable.proofs.SimLemmas.{driven, drives, faulty, in-order, is-main, is-sim-text, not-driven, not-scripted, out-of-order, read, reads, scripted, unread}
+use Rattle.impeccable.proofs.OrderedLemmas.{is-main, reads}
+use Rattle.impeccable.proofs.SimLemmas.{driven, drives, faulty, in-order, is-sim-text, not-driven, not-scripted, out-of-order, read, scripted, unread}
 use Rattle.impeccable.proofs.sim.prepare.Goals as goal
 
 pub returns-in_err-file-clause-prepares : goal.returns-in_err-file-clause-prepares

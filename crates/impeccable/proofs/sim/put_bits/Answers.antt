@@ -1,8 +1,8 @@
-use Rattle.std.proofs.Common.{◌≡◌, ◌+◌, false, [], ◌∷◌, ◌++◌, get_or, take, map, ap, sym, ◌∙◌}
+use Rattle.std.proofs.Common.{◌≡◌, ◌+◌, false, [], ◌∷◌, ◌++◌, get_or, take, ap, ◌∙◌}
 use Rattle.std.proofs.lemmas.List.{map-append, take_more}
 use Rattle.netlist_spec.specs.Statements.{bit_char}
 use Rattle.program_spec.specs.Printed.{bits_text}
-use Rattle.imp_io.proofs.BlockLemmas.{Gives-append, Gives-text}
+use Rattle.imp_io.proofs.BlockLemmas.{Gives-append}
 use Rattle.impeccable.proofs.sim.put_bits.Goals as goal
 
 pub loop-bit-preserved : goal.loop-bit-preserved

@@ -1,4 +1,4 @@
-use Rattle.std.proofs.Common.{[], ◌∷◌, ◌++◌, refl, sym}
+use Rattle.std.proofs.Common.{[], ◌∷◌, ◌++◌, refl}
 use Rattle.imp_io.proofs.BlockLemmas.{Gives-append, Gives-nil, Gives-text}
 use Rattle.impeccable.proofs.SimLemmas.{line-more, ran-more}
 use Rattle.impeccable.proofs.sim.put_cycles.Goals as goal
