@@ -7,7 +7,7 @@ use Rattle.std.proofs.lemmas.List.Elements.{Contains-append_left, Contains-appen
 use Rattle.std.proofs.lemmas.Bool.{cases_eq, cases_lt, cases_order, cases_Bool, eq-eqb, ne_eqb, both_ways}
 use Rattle.net_graph.specs.Chains.{IsMarked, IsMarkedOr, ends_of}
 use Rattle.net_graph.proofs.MarkLemmas.{among_more, among_last, among_cases, none_among}
-use Rattle.net_order.specs.Order.{IsOrder, AreDriven, IsLeftOver, OthersAreLeft}
+use Rattle.net_order.specs.Order.{IsOrder, AreDriven, IsLeftOver, OthersAreLeft, OthersWait}
 use Rattle.net_order.specs.States.{Task, waiters, WaitsAt, times_in, times_waiting, IsState, Moves, IsDrivenBy, WaitsBelow, begun_of, total_of, task_of, Begins}
 use Rattle.net_order.specs.declared.waiting.Waiter.{Waiter}
 use Rattle.net_order.specs.declared.state.State.{State}
@@ -302,3 +302,19 @@ left_are reads drives combines given left s b done exact driven n m =
     let combined : IsMarked combines w.item = begun_marked combines w.item (omega (arith, waiter_counts s.waiting below.0 w below.2.1, b.state.counts w.item)) in
     let read : Contains (ends_of reads w.item) below.0 = subst (λ j. Contains (ends_of reads w.item) j) at.net (Contains-get_or (ends_of reads w.item) w.place 0 at.within) in
     (w.item, combined, below.2.2, (below.0, read, left_on reads drives combines given left s b done exact below.0 at.unsettled (driven w.item below.0 combined read)))
+
+pub others_wait : (reads drives : List (List ℕ)) (combines given left : List Bool) (s : State) → Begins reads drives combines given (length combines) s → IsDone drives s → ((n : ℕ) → IsMarked left n ↔ WaitsBelow drives s.waiting (length given) n)
+    → AreDriven reads drives combines given → OthersWait reads combines left s.order.items
+others_wait reads drives combines given left s b done exact driven i m = at (cases_lt 0 (count_by (λ k. k == i) s.order.items))
+  where
+    waits : (net : ℕ) (w : Waiter) → w.item ≡ i → WaitsAt reads s.settled.items net w → (k : ℕ) × Contains (ends_of reads i) k × IsMarked left k
+    waits net w e at =
+        let read : Contains (ends_of reads w.item) net = subst (λ j. Contains (ends_of reads w.item) j) at.net (Contains-get_or (ends_of reads w.item) w.place 0 at.within) in
+        let here : Contains (ends_of reads i) net = subst (λ j. Contains (ends_of reads j) net) e read in
+        (net, here, left_on reads drives combines given left s b done exact net at.unsettled (driven i net m here))
+
+    at : (0 < count_by (λ k. k == i) s.order.items) ⊎ (count_by (λ k. k == i) s.order.items ≤ 0) → Contains s.order.items i ⊎ ((k : ℕ) × Contains (ends_of reads i) k × IsMarked left k)
+    at (inl h) = inl (counted_contains s.order.items i (omega arith))
+    at (inr none) =
+        let w = waits_somewhere s.waiting i (omega (arith, none, b.state.counts i, marked_begun combines i m)) in
+        inr (waits w.0 w.2.0 w.2.2 (b.waits.each w.0 w.2.0 w.2.1))

@@ -1,12 +1,12 @@
 -- Walks over nets that are left over.
-use Rattle.std.proofs.Common.{◌≡◌, ◌≢◌, ◌⊎◌, ◌↔◌, ◌==◌, inl, inr, refl, sym, ◌∙◌, ap, ap₂, subst, ℕ, zero, suc, ◌+◌, ◌-◌, ◌<◌, ◌≤◌, Bool, true, false, not, cond, List, [], ◌∷◌, ◌++◌, length, get_or, set, take, drop, sum_by, count_by, arith, Option, Some, slice_get, replicate, Contains}
+use Rattle.std.proofs.Common.{◌≡◌, ◌⊎◌, ◌↔◌, ◌==◌, inl, inr, refl, sym, ◌∙◌, ap, subst, ℕ, ◌+◌, ◌<◌, ◌≤◌, Bool, true, false, not, cond, List, [], ◌∷◌, ◌++◌, length, get_or, set, take, drop, count_by, arith, Some, slice_get, replicate, Contains}
 use Rattle.std.proofs.lemmas.List.{length-set, take-append-drop, drop_more, get_or_default, at_drop_more, get_or-replicate, length-replicate}
 use Rattle.std.proofs.lemmas.List.Sums.{sum_by-set, sum_by_push}
 use Rattle.std.proofs.lemmas.List.Elements.{Contains-append_left, Contains-push, Contains-push_cases}
 use Rattle.std.proofs.lemmas.Bool.{cases_eq, cases_lt, both_ways}
-use Rattle.net_graph.specs.Chains.{IsMarked, ends_of}
+use Rattle.net_graph.specs.Chains.{IsMarked}
 use Rattle.net_graph.proofs.MarkLemmas.{marked_kept, marked_here, marked_cases, marked_within, none_among}
-use Rattle.net_order.specs.Walks.{first_left, FollowsTo, FollowsAlong, IsFirstMarked, IsWalkedFrom, IsWalkedLoop}
+use Rattle.net_order.specs.Walks.{first_left, FollowsTo, FollowsAlong, IsWalkedFrom}
 use Rattle.net_order.proofs.OrderLemmas.{counted_contains, bit_of, one_if, none_if}
 
 -- a path from a net to a net

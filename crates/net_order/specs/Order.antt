@@ -30,3 +30,7 @@ IsLeftOver reads drives combines left n =
 -- Each item that combines is ordered, or all nets that it drives are left over.
 abbrev pub OthersAreLeft : (drives : List (List ℕ)) (combines left : List Bool) → List ℕ → Type 0
 OthersAreLeft drives combines left order = (i : ℕ) → IsMarked combines i → Contains order i ⊎ ((n : ℕ) → Contains (ends_of drives i) n → IsMarked left n)
+
+-- Each item that combines is ordered, or waits for a net that is left over: so all are ordered where none is left.
+abbrev pub OthersWait : (reads : List (List ℕ)) (combines left : List Bool) → List ℕ → Type 0
+OthersWait reads combines left order = (i : ℕ) → IsMarked combines i → Contains order i ⊎ ((k : ℕ) × Contains (ends_of reads i) k × IsMarked left k)

@@ -1,7 +1,7 @@
 // The order in which nets settle.
 ghost use Rattle.std.specs.Prelude.{◌≡◌, ◌<◌, ◌↔◌, ◌⊎◌, ℕ, List, length, All, Contains, IfOk};
 ghost use Rattle.net_graph.specs.Chains.{IsMarked};
-ghost use Rattle.net_order.specs.Order.{AreDriven, AreNets, IsLeftOver, IsOrder, OthersAreLeft};
+ghost use Rattle.net_order.specs.Order.{AreDriven, AreNets, IsLeftOver, IsOrder, OthersAreLeft, OthersWait};
 ghost use Rattle.net_order.specs.States.{Begins, IsDrivenBy, WaitsBelow, waiters};
 ghost use Rattle.net_order.specs.declared.waiting.Waiter.{Waiter as AWaiter};
 
@@ -36,6 +36,7 @@ pub fn settle(
     // where each net that is read has a driver
     ensures left { IfOk result (λ s. AreDriven reads.now drives.now combines.now given.now
         → (n : ℕ) → IsMarked s.left.items n → IsLeftOver reads.now drives.now combines.now s.left.items n) }
+    ensures waits { IfOk result (λ s. AreDriven reads.now drives.now combines.now given.now → OthersWait reads.now combines.now s.left.items s.order.items) }
     ensures others { IfOk result (λ s. OthersAreLeft drives.now combines.now s.left.items s.order.items) }
 {
     let mut state = begin(alloc, reads, combines, given)?;

@@ -1,4 +1,4 @@
-use Rattle.std.proofs.Common.{◌∙◌, sym, rules, ℕ, ◌<◌, length, get_or, false}
+use Rattle.std.proofs.Common.{◌∙◌, sym, rules, ◌<◌, length, get_or, false}
 use Rattle.std.proofs.lemmas.Bool.{both_ways}
 use Rattle.net_graph.specs.Chains.{IsMarked}
 use Rattle.net_order.proofs.WalkLemmas.{before_found, found_at}

@@ -1,7 +1,7 @@
 use Rattle.std.proofs.Common.{◌≡◌, ◌∙◌, refl, sym, ap, subst, ℕ, Bool, true, false, List, length, get_or, replicate, drop, ◌<◌, rules, arith, Contains}
 use Rattle.std.proofs.lemmas.List.{length-replicate, get_or_default}
 use Rattle.std.proofs.lemmas.Result.{IfOk-weaker}
-use Rattle.net_graph.specs.Chains.{IsMarked, ends_of}
+use Rattle.net_graph.specs.Chains.{IsMarked}
 use Rattle.net_graph.proofs.MarkLemmas.{marked_within}
 use Rattle.net_order.specs.Walks.{first_left}
 use Rattle.net_order.proofs.WalkLemmas.{Walks, walks_none, walks_more, met_falls, walk_ends, unmarked}

@@ -4,7 +4,7 @@ use Rattle.net_graph.specs.Chains.{ends_of}
 use Rattle.net_graph.proofs.MarkLemmas.{marked_within}
 use Rattle.net_order.specs.States.{Begins, Moves, Task, IsState, total_of}
 use Rattle.net_order.specs.declared.state.State.{State}
-use Rattle.net_order.proofs.OrderLemmas.{ordered_marked, row_driven, settled_more, driven_so_far, order_is, others_are, left_are}
+use Rattle.net_order.proofs.OrderLemmas.{ordered_marked, row_driven, settled_more, driven_so_far, order_is, others_are, others_wait, left_are}
 use Rattle.net_order.proofs.order.settle.Goals as goal
 
 item_within : (reads drives : List (List ℕ)) (combines given : List Bool) (s : State) (done item : ℕ) → Begins reads drives combines given (length combines) s → done < length s.order.items → item ≡ get_or s.order.items done item → item < length combines
@@ -61,6 +61,12 @@ returns-clause-order c = order_is c.args.reads.now c.args.drives.now c.args.comb
 pub returns-clause-left : goal.returns-clause-left
 returns-clause-left c =
     left_are c.args.reads.now c.args.drives.now c.args.combines.now c.args.given.now c.in_ok-left.left.items c.loop-done.state c.loop-done.invariant.begins
+    (λ k below. c.loop-done.invariant.driven k (omega (arith, below, c.loop-done-test.false, c.len.ensures, c.loop-done.state.order.ok.0)))
+    c.in_ok-left.ensures.1
+
+pub returns-clause-waits : goal.returns-clause-waits
+returns-clause-waits c =
+    others_wait c.args.reads.now c.args.drives.now c.args.combines.now c.args.given.now c.in_ok-left.left.items c.loop-done.state c.loop-done.invariant.begins
     (λ k below. c.loop-done.invariant.driven k (omega (arith, below, c.loop-done-test.false, c.len.ensures, c.loop-done.state.order.ok.0)))
     c.in_ok-left.ensures.1
 
