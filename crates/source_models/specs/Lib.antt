@@ -1,0 +1,3 @@
+pub mod Cycles
+pub mod Order
+pub mod Recursion
