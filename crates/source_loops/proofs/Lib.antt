@@ -1,0 +1,9 @@
+pub mod NumberLemmas
+pub mod NetLemmas
+pub mod OrderLemmas
+pub mod LeftLemmas
+pub mod DriverLemmas
+pub mod RowLemmas
+pub mod ToldLemmas
+pub mod SettleLemmas
+pub mod FileLemmas

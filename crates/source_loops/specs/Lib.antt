@@ -1,0 +1,4 @@
+pub mod Drivers
+pub mod Nets
+pub mod Orders
+pub mod Settled
