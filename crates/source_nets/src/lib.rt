@@ -10,6 +10,7 @@ mod rows;
 mod statement;
 mod types;
 
+pub use library_port::number_of;
 pub use models::survey;
 pub use name_index::NameIndex;
 pub use ports::{PortKind, PortMarks, is_port, port_marks};

@@ -8,8 +8,8 @@ use imp_text::decimal;
 // No entry has more inputs or outputs.
 const MOST_PORTS: u32 = 128;
 
-// The number that is written as these digits, without leading zeros, if it is below `MOST_PORTS`.
-fn number_of(digits: &[u8]) -> Option<u32>
+/// The number that is written as these digits, without leading zeros, if it is below 128, the most ports that an entry has.
+pub fn number_of(digits: &[u8]) -> Option<u32>
     ensures written { IfSome result (λ n. decimal_text n ≡ digits.now) }
     ensures none { IfNone result ((n : ℕ) → n < 128 → decimal_text n ≢ digits.now) }
 {
