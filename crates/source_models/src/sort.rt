@@ -14,7 +14,8 @@ pub(crate) enum Sorted {
     OnCycle(usize),
 }
 
-// The order is found in linear work. Where there is none, the nodes that are left over are searched one by one.
+// The order is found in linear work. Where nodes are left over, each has an edge to one of them, so that a walk over them ends
+// in a cycle. Then they are searched one by one.
 pub(crate) fn sort(alloc: Global, graph: &Graph, marks: &[bool]) -> Result<Sorted, AllocError>
     requires graph { IsGraph graph.now }
     requires marks { length marks.now ≡ length graph.now }
