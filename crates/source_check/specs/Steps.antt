@@ -15,11 +15,12 @@ abbrev pub PassesBelow : File → Library → ℕ → Type 0
 PassesBelow file library n = (other : SoundFault) → rank other < n → Passes file library other
 
 -- what is known of a source before its tests
-pub record IsSurveyed (source : Source) (survey : Survey) : Type 0 where
+pub record IsTestable (source : Source) (survey : Survey) : Type 0 where
   pub ready : IsSource source
   pub is_file : IsFile (source_file source)
   pub surveyed : IsSurvey (source_file source) (source_library source) survey
 
-pub record IsMarked (source : Source) (survey : Survey) (used : List Bool) : Type 0 where
-  pub known : IsSurveyed source survey
+-- and a mark for each model, at those that are used
+pub record HasUsedMarks (source : Source) (survey : Survey) (used : List Bool) : Type 0 where
+  pub known : IsTestable source survey
   pub marks : AreUsedMarks (source_file source) used

@@ -13,7 +13,7 @@ ghost use Rattle.source_nets.specs.Survey.{library_of};
 ghost use Rattle.source_models.specs.Order.{IsPlacedFirst};
 ghost use Rattle.source_check.specs.Checked.{IsChecked};
 ghost use Rattle.source_check.specs.Faults.{fault_of};
-ghost use Rattle.source_check.specs.Steps.{IsMarked, PassesBelow};
+ghost use Rattle.source_check.specs.Steps.{HasUsedMarks, PassesBelow};
 
 use crate::main_tests::{check_clocking, check_limits, check_reserved};
 use crate::model_tests::{
@@ -93,7 +93,7 @@ fn check_models(
     survey: &Survey,
     used: &[bool],
 ) -> Result<Vec<usize>, ElabFault>
-    requires { IsMarked source.now survey.now used.now }
+    requires { HasUsedMarks source.now survey.now used.now }
     ensures passes { OnOk result (PassesBelow (source_file source.now) (source_library source.now) 8) }
     ensures order { IfOk result (λ order. IsPlacedFirst (source_file source.now) order.items) }
     ensures refused { IfErr result (λ fault. IfSome (fault_of fault) (IsRefusedWith (source_file source.now) (source_library source.now))) }

@@ -6,7 +6,7 @@ ghost use Rattle.blif_read.specs.Ids.{HasIds, IsIdOf};
 ghost use Rattle.blif_read.specs.View.{model_of, name_at};
 ghost use Rattle.source_nets.specs.Ports.{source_file, source_library};
 ghost use Rattle.source_nets.specs.Survey.{IsModelSurvey};
-ghost use Rattle.source_check.specs.Steps.{IsSurveyed};
+ghost use Rattle.source_check.specs.Steps.{IsTestable};
 
 use blif_read::{Model, Name, NameId, Names};
 use source_nets::{ModelSurvey, Source, Survey};
@@ -14,7 +14,7 @@ use std::alloc::{AllocError, Global};
 
 // The main model with what is known of its statements.
 pub(crate) fn main_model<'a>(source: &'a Source, survey: &'a Survey) -> (&'a Model, &'a ModelSurvey)
-    requires { IsSurveyed source.now survey.now }
+    requires { IsTestable source.now survey.now }
     ensures main { IsMain (source_file source.now) (model_of result.0.now) }
     ensures ids { HasIds result.0.now }
     ensures survey { IsModelSurvey (source_file source.now) (source_library source.now) (model_of result.0.now) result.1.now }

@@ -7,7 +7,7 @@ ghost use Rattle.source_nets.specs.Ports.{source_file, source_library};
 ghost use Rattle.source_models.specs.Order.{IsPlacedFirst};
 ghost use Rattle.source_check.specs.Checked.{AreCosts};
 ghost use Rattle.source_check.specs.Faults.{fault_of};
-ghost use Rattle.source_check.specs.Steps.{IsSurveyed, PassesBelow};
+ghost use Rattle.source_check.specs.Steps.{IsTestable, PassesBelow};
 
 use crate::ElabFault;
 use crate::main_model::{main_model, name_of};
@@ -25,7 +25,7 @@ pub(crate) fn check_clocking(
     source: &Source,
     survey: &Survey,
 ) -> Result<(), ElabFault>
-    requires known { IsSurveyed source.now survey.now }
+    requires known { IsTestable source.now survey.now }
     requires before { PassesBelow (source_file source.now) (source_library source.now) 8 }
     ensures passes { OnOk result (PassesBelow (source_file source.now) (source_library source.now) 9) }
     ensures refused { IfErr result (λ fault. IfSome (fault_of fault) (IsRefusedWith (source_file source.now) (source_library source.now))) }
@@ -45,7 +45,7 @@ pub(crate) fn check_reserved(
     source: &Source,
     survey: &Survey,
 ) -> Result<(), ElabFault>
-    requires known { IsSurveyed source.now survey.now }
+    requires known { IsTestable source.now survey.now }
     requires before { PassesBelow (source_file source.now) (source_library source.now) 10 }
     ensures passes { OnOk result (PassesBelow (source_file source.now) (source_library source.now) 11) }
     ensures refused { IfErr result (λ fault. IfSome (fault_of fault) (IsRefusedWith (source_file source.now) (source_library source.now))) }
@@ -65,7 +65,7 @@ pub(crate) fn check_limits(
     survey: &Survey,
     order: &[usize],
 ) -> Result<Vec<u32>, ElabFault>
-    requires known { IsSurveyed source.now survey.now }
+    requires known { IsTestable source.now survey.now }
     requires order { IsPlacedFirst (source_file source.now) order.now }
     requires before { PassesBelow (source_file source.now) (source_library source.now) 11 }
     ensures passes { OnOk result (PassesBelow (source_file source.now) (source_library source.now) 12) }

@@ -5,7 +5,7 @@ ghost use Rattle.source_nets.specs.Ports.{source_file, source_library};
 ghost use Rattle.source_models.specs.Order.{IsPlacedFirst};
 ghost use Rattle.source_loops.specs.Orders.{AreOrders};
 ghost use Rattle.source_check.specs.Faults.{fault_of};
-ghost use Rattle.source_check.specs.Steps.{IsMarked, PassesBelow};
+ghost use Rattle.source_check.specs.Steps.{HasUsedMarks, PassesBelow};
 
 use crate::ElabFault;
 use source_laws::passed_files_are_sound;
@@ -23,7 +23,7 @@ pub(crate) fn check_drivers(
     survey: &Survey,
     used: &[bool],
 ) -> Result<(), ElabFault>
-    requires { IsMarked source.now survey.now used.now }
+    requires { HasUsedMarks source.now survey.now used.now }
     ensures passes { OnOk result (PassesBelow (source_file source.now) (source_library source.now) 2) }
     ensures refused { IfErr result (λ fault. IfSome (fault_of fault) (IsRefusedWith (source_file source.now) (source_library source.now))) }
 {
@@ -41,7 +41,7 @@ pub(crate) fn check_names(
     survey: &Survey,
     used: &[bool],
 ) -> Result<(), ElabFault>
-    requires known { IsMarked source.now survey.now used.now }
+    requires known { HasUsedMarks source.now survey.now used.now }
     requires before { PassesBelow (source_file source.now) (source_library source.now) 2 }
     ensures passes { OnOk result (PassesBelow (source_file source.now) (source_library source.now) 3) }
     ensures refused { IfErr result (λ fault. IfSome (fault_of fault) (IsRefusedWith (source_file source.now) (source_library source.now))) }
@@ -60,7 +60,7 @@ pub(crate) fn check_ports(
     survey: &Survey,
     used: &[bool],
 ) -> Result<(), ElabFault>
-    requires known { IsMarked source.now survey.now used.now }
+    requires known { HasUsedMarks source.now survey.now used.now }
     requires before { PassesBelow (source_file source.now) (source_library source.now) 3 }
     ensures passes { OnOk result (PassesBelow (source_file source.now) (source_library source.now) 4) }
     ensures refused { IfErr result (λ fault. IfSome (fault_of fault) (IsRefusedWith (source_file source.now) (source_library source.now))) }
@@ -79,7 +79,7 @@ pub(crate) fn check_recursion(
     survey: &Survey,
     used: &[bool],
 ) -> Result<Vec<usize>, ElabFault>
-    requires known { IsMarked source.now survey.now used.now }
+    requires known { HasUsedMarks source.now survey.now used.now }
     requires before { PassesBelow (source_file source.now) (source_library source.now) 4 }
     ensures passes { OnOk result (PassesBelow (source_file source.now) (source_library source.now) 5) }
     ensures order { IfOk result (λ order. IsPlacedFirst (source_file source.now) order.items) }
@@ -99,7 +99,7 @@ pub(crate) fn check_latches(
     survey: &Survey,
     used: &[bool],
 ) -> Result<(), ElabFault>
-    requires known { IsMarked source.now survey.now used.now }
+    requires known { HasUsedMarks source.now survey.now used.now }
     requires before { PassesBelow (source_file source.now) (source_library source.now) 5 }
     ensures passes { OnOk result (PassesBelow (source_file source.now) (source_library source.now) 6) }
     ensures refused { IfErr result (λ fault. IfSome (fault_of fault) (IsRefusedWith (source_file source.now) (source_library source.now))) }
@@ -118,7 +118,7 @@ pub(crate) fn check_depth(
     survey: &Survey,
     used: &[bool],
 ) -> Result<(), ElabFault>
-    requires known { IsMarked source.now survey.now used.now }
+    requires known { HasUsedMarks source.now survey.now used.now }
     requires before { PassesBelow (source_file source.now) (source_library source.now) 6 }
     ensures passes { OnOk result (PassesBelow (source_file source.now) (source_library source.now) 7) }
     ensures refused { IfErr result (λ fault. IfSome (fault_of fault) (IsRefusedWith (source_file source.now) (source_library source.now))) }
@@ -137,7 +137,7 @@ pub(crate) fn check_reads(
     survey: &Survey,
     used: &[bool],
 ) -> Result<(), ElabFault>
-    requires known { IsMarked source.now survey.now used.now }
+    requires known { HasUsedMarks source.now survey.now used.now }
     requires before { PassesBelow (source_file source.now) (source_library source.now) 7 }
     ensures passes { OnOk result (PassesBelow (source_file source.now) (source_library source.now) 8) }
     ensures refused { IfErr result (λ fault. IfSome (fault_of fault) (IsRefusedWith (source_file source.now) (source_library source.now))) }
@@ -156,7 +156,7 @@ pub(crate) fn check_loops(
     survey: &Survey,
     used: &[bool],
 ) -> Result<Vec<Vec<usize>>, ElabFault>
-    requires known { IsMarked source.now survey.now used.now }
+    requires known { HasUsedMarks source.now survey.now used.now }
     requires before { PassesBelow (source_file source.now) (source_library source.now) 9 }
     ensures passes { OnOk result (PassesBelow (source_file source.now) (source_library source.now) 10) }
     ensures orders { IfOk result (λ orders. AreOrders (source_file source.now) (source_library source.now) used.now (map (λ row. row.items) orders.items)) }
