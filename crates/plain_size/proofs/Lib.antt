@@ -1,0 +1,11 @@
+pub mod BitLemmas
+pub mod ConeLemmas
+pub mod GraphLemmas
+pub mod MainLemmas
+pub mod NetLemmas
+pub mod NodeLemmas
+pub mod OnceLemmas
+pub mod PriceLemmas
+pub mod SizeLemmas
+pub mod SumLemmas
+pub mod WalkLemmas

@@ -1,0 +1,9 @@
+-- The nets of the latches so far.
+use Rattle.std.proofs.Common.{◌≡◌, take}
+use Rattle.std.specs.Prelude.{filter_map}
+use Rattle.blif_read.specs.declared.file.Located.{Located}
+use Rattle.plain_size.specs.Nets.{stored_id}
+use Rattle.plain_size.proofs.nets.latch_inputs.Given as goal
+
+abbrev pub invariant-loop-s : goal.invariant-loop-s
+invariant-loop-s l = l.ids.items ≡ filter_map (λ (s : Located). stored_id s.what) (take l.s-index l.m.statements.items)
