@@ -1,7 +1,7 @@
 #!/bin/sh
 # Measures the check of sources: files of 100,000, 200,000 and 400,000 `.names` in reversed order, rings of 100,000 and 200,000, and
-# chains of 16 models with 5,000 and 10,000 statements each. Processor seconds of the reading and of the check, each the best of
-# three runs, and the peak memory for each byte of input. A program of its own does it, in a copy of the crates that goes away.
+# chains of 16 models with 5,000 and 10,000 statements each. Processor seconds of the reading, the best of five runs, and of one of ten
+# checks, and the peak memory of one for each byte of input. A program of its own does it, in a copy of the crates that goes away.
 # The figures of one run go together, since machines are noisy. Needs python3 and the kit's command rt.
 top=$(CDPATH='' cd -- "$(dirname -- "$0")/.." && pwd) && work=$(mktemp -d) || exit 1
 trap 'rm -rf "$work"' EXIT
@@ -15,7 +15,7 @@ done
 echo 'check_figures: netlist_spec blif_read sbox_table linear_layer source_check' >>"$work/crates.txt"
 mkdir -p check_figures/src && cd check_figures || exit 1
 cat >src/main.rt <<'END'
-//! Reads a netlist from standard input, and, where no word is given, checks it.
+//! Reads a netlist from standard input, and checks it once for each word.
 #![tactic(auto)]
 
 use blif_read::read;
@@ -25,6 +25,13 @@ use std::io;
 use std::io::Read;
 
 const LONGEST_TEXT: usize = 268_435_456;
+
+fn loop_length(fault: &ElabFault) -> u32 {
+    match fault {
+        ElabFault::Loop(nets) => nets.len(),
+        _ => 0,
+    }
+}
 
 fn main(rt: HostRuntime) -> io::Result<()> {
     let alloc = rt.alloc();
@@ -37,17 +44,16 @@ fn main(rt: HostRuntime) -> io::Result<()> {
     let Ok(file) = read(alloc, &text) else {
         return println!(rt; "unread");
     };
-    if words > 1 {
-        return println!(rt; "read");
-    }
-    match check(alloc, &file, &[], &[]) {
-        Ok(_) => println!(rt; "sound"),
-        Err(ElabFault::Loop(nets)) => {
-            let count = nets.len();
-            println!(rt; "E9 with {count} nets")
+    for _ in 1..words {
+        match check(alloc, &file, &[], &[]) {
+            Ok(_checked) => println!(rt; "sound")?,
+            Err(fault) => {
+                let count = loop_length(&fault);
+                println!(rt; "refused with a loop of {count} nets")?
+            }
         }
-        Err(_) => println!(rt; "refused"),
     }
+    Ok(())
 }
 END
 echo 'unread' >stdout
@@ -81,7 +87,7 @@ def models(f, count):
 
 def run(path, words):
     best, peak = None, 0
-    for _ in range(3):
+    for _ in range(5):
         process = subprocess.Popen([program, *words], stdin=open(path), stdout=open(f"{work}/told", "w"))
         _, status, usage = os.wait4(process.pid, 0)
         if status:
@@ -89,7 +95,7 @@ def run(path, words):
         seconds = usage.ru_utime + usage.ru_stime
         best = seconds if best is None else min(best, seconds)
         peak = max(peak, usage.ru_maxrss * 1024)
-    return best, peak, open(f"{work}/told").read().strip()
+    return best, peak, open(f"{work}/told").read().split("\n")[0]
 
 print(f"{os.cpu_count()} processors")
 for name, make, counts in [("reversed .names", reversed_names, [100000, 200000, 400000]), ("ring", ring, [100000, 200000]), ("16 models", models, [5000, 10000])]:
@@ -99,11 +105,12 @@ for name, make, counts in [("reversed .names", reversed_names, [100000, 200000, 
         with open(path, "w") as f:
             make(f, count)
         size = os.path.getsize(path)
-        reading, _, _ = run(path, ["read"])
-        whole, peak, told = run(path, [])
-        line = f"{name}, {count}: {told}; {size} bytes, read in {reading:.3f} s, checked in {whole - reading:.3f} s, {peak / size:.1f} bytes of memory for each byte"
+        reading, _, _ = run(path, [])
+        _, peak, told = run(path, ["check"])
+        seconds = (run(path, ["check"] * 10)[0] - reading) / 10
+        line = f"{name}, {count}: {told}; {size} bytes, read in {reading:.3f} s, checked in {seconds:.3f} s, {peak / size:.1f} bytes of memory for each byte"
         if before:
-            line += f"; the check takes {(whole - reading) / before:.2f} times as long as that of half of it"
-        before = whole - reading
+            line += f"; the check takes {seconds / before:.2f} times as long as that of half of it"
+        before = seconds
         print(line, flush=True)
 END
