@@ -1,0 +1,11 @@
+pub mod NetIn
+pub mod BindSteps
+pub mod Places
+pub mod Bound
+pub mod DistinctPlaces
+pub mod Progress
+pub mod Halfway
+pub mod Known
+pub mod ModelLoop
+pub mod Placement
+pub mod PlacedCall
