@@ -1,3 +1,4 @@
 pub mod BitLemmas
+pub mod PackedLemmas
 pub mod RowLemmas
 pub mod StimulusLemmas

@@ -1,8 +1,8 @@
 -- Bits that are cut into rows.
-use Rattle.std.proofs.Common.{◌≡◌, ℕ, zero, suc, ◌+◌, ◌*◌, ◌<◌, ◌≤◌, List, [], ◌∷◌, ◌++◌, Bool, true, false, cond, Option, None, Some, length, get_or, take, drop, refl, ◌∙◌, ap, ap₂, arith, length-append, length-drop, append_assoc}
+use Rattle.std.proofs.Common.{◌≡◌, ℕ, zero, suc, ◌+◌, ◌*◌, ◌^◌, ◌<◌, ◌≤◌, List, [], ◌∷◌, ◌++◌, Bool, true, false, cond, Option, None, Some, length, get_or, take, drop, refl, ◌∙◌, ap, ap₂, arith, length-append, length-drop, append_assoc}
 use Rattle.std.specs.Prelude.{IsSomeAnd, slice_get, slice_range, codes, ◌==◌}
 use Rattle.std.proofs.lemmas.Bool.{eqb-true}
-use Rattle.std.proofs.lemmas.List.{take-append-le, drop-append-le, take_all}
+use Rattle.std.proofs.lemmas.List.{take-append-le, drop-append-le, take_all, length-take-le}
 use Rattle.std.proofs.lemmas.Grind.{common_steps}
 use Rattle.std.specs.Bool.{then_some}
 use Rattle.netlist_spec.specs.Lines.{Word}
@@ -69,3 +69,14 @@ pushed_more word i bit old now new inside so_far here push = go (bits_of_text (t
     go (Some row) e h =
         let more : bits_of_text (take (i + 1) word) ≡ Some (row ++ bit ∷ []) = gives_more bit_of_char word i 0 row bit inside e here in
         rw more (push ∙ (ap (λ bits. bits ++ bit ∷ []) h ∙ append_assoc old row (bit ∷ [])))
+
+-- there is room for one more bit
+pub room_left : (word : Word) (i : ℕ) (old now : Bits) → i < length word → length old + length word < 2 ^ 62 → IsSomeAnd (bits_of_text (take i word)) (λ row. now ≡ old ++ row) → length now < 2 ^ 62
+room_left word i old now inside few so_far = go (bits_of_text (take i word)) refl so_far
+  where
+    go : (so_far : Option Bits) → bits_of_text (take i word) ≡ so_far → IsSomeAnd so_far (λ row. now ≡ old ++ row) → length now < 2 ^ 62
+    go None e h = absurd h
+    go (Some row) e h =
+        let part : length row ≡ i = gives_length bit_of_char (take i word) row e ∙ length-take-le i word (omega (arith, inside)) in
+        let all : length now ≡ length old + length row = ap length h ∙ length-append old row in
+        omega (arith, part, all, inside, few)

@@ -1,6 +1,7 @@
 //! Stimulus files of the simulator.
 #![tactic(auto)]
 
+mod bits;
 mod fault;
 mod row;
 mod stimulus;

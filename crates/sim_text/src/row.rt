@@ -1,10 +1,11 @@
 // The bits of one cycle, as a line of a stimulus spells them.
-ghost use Rattle.std.specs.Prelude.{◌≡◌, [], ◌∷◌, All, IfOk};
+ghost use Rattle.std.specs.Prelude.{◌≡◌, ◌+◌, ◌<◌, ◌^◌, [], ◌∷◌, length, All, IfOk};
 ghost use Rattle.netlist_spec.specs.Digits.{bit_of_char as bit_of, bits_of_text};
 ghost use Rattle.stimulus_spec.specs.Stimulus.{stimulus_row};
 ghost use Rattle.imp_text.specs.Tokens.{words_at, IsWithin};
 ghost use Rattle.sim_text.specs.Rows.{IsPushed};
 
+use crate::bits::Bits;
 use imp_text::Token;
 use std::alloc::AllocError;
 
@@ -19,8 +20,9 @@ fn bit_of_char(c: u8) -> Option<bool>
 }
 
 // Appends the bits of a word, and answers whether it has bits alone.
-fn push_bits(word: &[u8], bits: &mut Vec<bool>) -> Result<bool, AllocError>
-    ensures { IfOk result (λ fits. IsPushed fits (bits_of_text word.now) bits.old.items bits.new.items) }
+fn push_bits(word: &[u8], bits: &mut Bits) -> Result<bool, AllocError>
+    requires { length bits.old + length word.now < 2 ^ 62 }
+    ensures { IfOk result (λ fits. IsPushed fits (bits_of_text word.now) bits.old bits.new) }
 {
     for c in word {
         let Some(bit) = bit_of_char(*c) else {
@@ -32,8 +34,9 @@ fn push_bits(word: &[u8], bits: &mut Vec<bool>) -> Result<bool, AllocError>
 }
 
 // Appends the bits of a word for so many data inputs, and answers whether it is a row for them.
-fn push_word(word: &[u8], inputs: u32, bits: &mut Vec<bool>) -> Result<bool, AllocError>
-    ensures { IfOk result (λ fits. IsPushed fits (stimulus_row inputs (word.now ∷ [])) bits.old.items bits.new.items) }
+fn push_word(word: &[u8], inputs: u32, bits: &mut Bits) -> Result<bool, AllocError>
+    requires { length bits.old < 2 ^ 61 }
+    ensures { IfOk result (λ fits. IsPushed fits (stimulus_row inputs (word.now ∷ [])) bits.old bits.new) }
 {
     if inputs == 0 {
         return Ok(word == b"-".as_slice());
@@ -49,10 +52,11 @@ pub(crate) fn push_row(
     source: &[u8],
     words: &[Token],
     inputs: u32,
-    bits: &mut Vec<bool>,
+    bits: &mut Bits,
 ) -> Result<bool, AllocError>
-    requires { All (IsWithin source.now) words.now }
-    ensures { IfOk result (λ fits. IsPushed fits (stimulus_row inputs (words_at source.now words.now)) bits.old.items bits.new.items) }
+    requires within { All (IsWithin source.now) words.now }
+    requires few { length bits.old < 2 ^ 61 }
+    ensures { IfOk result (λ fits. IsPushed fits (stimulus_row inputs (words_at source.now words.now)) bits.old bits.new) }
 {
     match words {
         [word] => push_word(&source[word.start..word.end], inputs, bits),

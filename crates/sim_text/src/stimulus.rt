@@ -4,6 +4,7 @@ ghost use Rattle.stimulus_spec.specs.Stimulus.{stimulus_of};
 ghost use Rattle.sim_text.specs.Faults.{IsStimFault};
 
 use crate::StimFault;
+use crate::bits::Bits;
 use crate::row::push_row;
 use imp_text::Lines;
 use std::alloc::Global;
@@ -16,7 +17,7 @@ const MOST_CYCLES: u32 = 1_000_000;
 pub struct Stimulus {
     inputs: u32,
     cycles: u32,
-    bits: Vec<bool>,
+    bits: Bits,
 }
 
 impl Model for Stimulus {
@@ -25,9 +26,9 @@ impl Model for Stimulus {
 
     ghost Value = { Rows };
 
-    ghost view = { λ s. record { inputs = s.inputs; cycles = rows s.inputs s.cycles s.bits.items } };
+    ghost view = { λ s. record { inputs = s.inputs; cycles = rows s.inputs s.cycles s.bits } };
 
-    ghost invariant = { λ s. (s.cycles ≤ 1000000) × (length s.bits.items ≡ s.cycles * s.inputs) };
+    ghost invariant = { λ s. (s.cycles ≤ 1000000) × (length s.bits ≡ s.cycles * s.inputs) };
 }
 
 impl Stimulus {
@@ -40,7 +41,7 @@ impl Stimulus {
     {
         let mut lines = Lines::plain(bytes);
         let mut words = Vec::new(alloc);
-        let mut bits = Vec::with_capacity(alloc, bytes.len())?;
+        let mut bits = Bits::new(alloc);
         let mut cycles = 0;
         'lines: while let Some(number) = lines.next_line(&mut words)? {
             if cycles == MOST_CYCLES {
@@ -75,6 +76,6 @@ impl Stimulus {
     {
         let width = self.inputs as usize;
         let start = c as usize * width;
-        x.copy_from_slice(&self.bits[start..start + width]);
+        self.bits.copy_to(start, x);
     }
 }

@@ -4,7 +4,7 @@ use Rattle.sim_text.proofs.RowLemmas.{rows_count}
 use Rattle.sim_text.proofs.stimulus.Stimulus.cycles.Goals as goal
 
 pub returns-clause-count : goal.returns-clause-count
-returns-clause-count c = sym (rows_count c.self.inside.inputs c.self.inside.cycles c.self.inside.bits.items) ∙ ap (λ (r : Rows). length r.cycles) c.self.view_is
+returns-clause-count c = sym (rows_count c.self.inside.inputs c.self.inside.cycles c.self.inside.bits) ∙ ap (λ (r : Rows). length r.cycles) c.self.view_is
 
 pub returns-clause-few : goal.returns-clause-few
 returns-clause-few c =

@@ -4,7 +4,7 @@ use Rattle.sim_text.proofs.StimulusLemmas.{IsSoFar}
 use Rattle.sim_text.proofs.stimulus.Stimulus.read.Given as goal
 
 abbrev pub invariant-lines : goal.invariant-lines
-invariant-lines l = IsSoFar l.fn.bytes l.fn.inputs l.lines l.cycles l.bits.items
+invariant-lines l = IsSoFar l.fn.bytes l.fn.inputs l.lines l.cycles l.bits
 
 abbrev pub decreases-lines : goal.decreases-lines
 decreases-lines l = length l.lines.left
