@@ -1,9 +1,16 @@
 -- What the faults of the reader stand for.
-use Rattle.std.specs.Prelude.{◌≡◌, ⊤, List, Option, Some, Result, Err}
+use Rattle.std.specs.Prelude.{◌≡◌, ⊤, List, Option, None, Some, Result, Err}
 use Rattle.netlist_spec.specs.Runs.{Fault}
 use Rattle.stimulus_spec.specs.Stimulus.{ScriptFault as SaidFault, bad_script, no_such_cell, more_than_sixteen}
 use Rattle.fault_script.specs.declared.fault.ScriptFault.{ScriptFault}
 use Rattle.fault_script.specs.declared.fault.ScriptFault.TheVariants.{BadScript, NoSuchCell, MoreThanSixteen, NoMemory}
+
+-- what is wrong, with the line, and none for want of memory
+abbrev pub fault_of : ScriptFault → Option SaidFault
+fault_of (BadScript line) = Some (bad_script line)
+fault_of (NoSuchCell line) = Some (no_such_cell line)
+fault_of (MoreThanSixteen line) = Some (more_than_sixteen line)
+fault_of NoMemory = None
 
 -- A fault other than want of memory is what holds of its line.
 abbrev pub Stands : (SaidFault → Type 0) → ScriptFault → Type 0

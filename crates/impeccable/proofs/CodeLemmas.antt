@@ -1,32 +1,40 @@
 -- The steps of `code`: where it stands after each, and what stops it there.
-use Rattle.std.proofs.Common.{◌≡◌, ◌≤◌, List, ℕ, Ok, Err, Some}
-use Rattle.std.specs.Prelude.{Option, IsSome, length}
-use Rattle.imp_io.specs.Files.{FilesSeen, bytes_at}
-use Rattle.guard_spec.specs.SettingsFile.{SettingsFault, settings_of_bytes}
+use Rattle.std.proofs.Common.{◌≡◌, ◌≤◌, List, ℕ, Ok, Some, None, sym, subst}
+use Rattle.std.specs.Prelude.{Option, IsSomeAnd, length}
+use Rattle.imp_io.specs.Files.{FilesSeen}
+use Rattle.guard_spec.specs.SettingsFile.{settings_of_bytes}
 use Rattle.guard_spec.specs.Words.{Settings}
-use Rattle.settings.specs.Faults.{IsFault}
 use Rattle.program_spec.specs.Commands.{code, other_limit}
-use Rattle.program_spec.specs.Refusals.{bad_settings}
-use Rattle.program_spec.specs.Walk.{Walk, end, test}
+use Rattle.program_spec.specs.Printed.{IsReport}
+use Rattle.program_spec.specs.Walk.{Walk, end}
 use Rattle.program_spec.specs.Steps.{settings_in}
-use Rattle.program_spec.specs.Verdict.{walk_of}
+use Rattle.program_spec.specs.Verdict.{IsReportText, walk_of}
 use Rattle.impeccable.specs.declared.ended.Stop.{Stop}
-use Rattle.impeccable.specs.Ended.{stop_answer, fault_answer}
-use Rattle.impeccable.specs.Steps.{LoadsNamed, Passed, Stops}
-use Rattle.impeccable.proofs.StepLemmas.{starts, load-passes, test-passes, load-stops, settings-stop}
+use Rattle.impeccable.specs.Ended.{stop_answer}
+use Rattle.impeccable.specs.Loads.{StopsLoad, WhereHeld}
+use Rattle.impeccable.specs.Steps.{Passed, Stops}
+use Rattle.impeccable.proofs.LoadsLemmas.{tested-passes, tested-stops}
+use Rattle.impeccable.proofs.StepLemmas.{starts}
 
 -- what is left of the walk behind the load
-abbrev of_text : List ℕ → Walk
-of_text text = test Settings (settings_in text) (λ s. end)
+abbrev of_settings : Settings → Walk
+of_settings s = end
 
-pub loaded : (settings : List ℕ) (old : FilesSeen) (text : List ℕ) → length text ≤ other_limit → (IsSome old.told → bytes_at old.told settings ≡ Some text) → Passed old (walk_of (code settings)) (of_text text)
-loaded settings old text short found = load-passes old (walk_of (code settings)) settings other_limit of_text text (starts old (walk_of (code settings))) short found
+-- the settings are held
+abbrev IsHeld : FilesSeen → List ℕ → Settings → Type 0
+IsHeld old n s = WhereHeld old n (λ bytes. (length bytes ≤ other_limit) × (settings_of_bytes bytes ≡ Ok s))
 
-pub settled : (settings : List ℕ) (old : FilesSeen) (text : List ℕ) (s : Settings) → Passed old (walk_of (code settings)) (of_text text) → settings_of_bytes text ≡ Ok s → Passed old (walk_of (code settings)) end
-settled settings old text s p h = test-passes old (walk_of (code settings)) Settings (settings_in text) (λ s. end) s p h
+pub what-is-read : (settings : List ℕ) (old : FilesSeen) (s : Settings) → (found : Settings) × (s ≡ found) × IsHeld old settings found → IsHeld old settings s
+what-is-read settings old s (found, same, held) = subst (λ (f : Settings). IsHeld old settings f) (sym same) held
 
-pub unloaded : (settings : List ℕ) (old new : FilesSeen) (stop : Stop) → LoadsNamed old settings other_limit (Err stop) new → Stops (code settings) old stop new
-unloaded settings old new stop h = load-stops (code settings) old new settings other_limit of_text stop (starts old (walk_of (code settings))) h
+pub settled : (settings : List ℕ) (old : FilesSeen) (s : Settings) → IsHeld old settings s → Passed old (walk_of (code settings)) end
+settled settings old s held = tested-passes old (walk_of (code settings)) settings other_limit Settings settings_in of_settings s (starts old (walk_of (code settings))) held
 
-pub unsettled : (settings : List ℕ) (old new : FilesSeen) (text : List ℕ) (fault : Option SettingsFault) (stop : Stop) → Passed old (walk_of (code settings)) (of_text text) → IsFault (settings_of_bytes text) fault → stop_answer stop ≡ fault_answer SettingsFault bad_settings fault → Stops (code settings) old stop new
-unsettled settings old new text fault stop p h is = settings-stop (code settings) old new text (λ s. end) fault stop p h is
+pub unsettled : (settings : List ℕ) (old new : FilesSeen) (stop : Stop) → StopsLoad Settings old settings other_limit settings_in (stop_answer stop) new → Stops (code settings) old stop new
+unsettled settings old new stop h = tested-stops (code settings) old new settings other_limit Settings settings_in of_settings stop (starts old (walk_of (code settings))) h
+
+-- the report that is written, of the bytes that are held
+pub report-text : (seen : Option (List ℕ)) (s : Settings) (text : List ℕ) → IsReport s.code text
+    → IsSomeAnd seen (λ bytes. (length bytes ≤ other_limit) × (settings_of_bytes bytes ≡ Ok s)) → IsSomeAnd seen (λ bytes. IsReportText bytes text)
+report-text None s text report h = absurd h
+report-text (Some bytes) s text report h = record { s = s; is_settings = h.1; is_report = report }

@@ -17,11 +17,11 @@ use Rattle.stimulus_spec.specs.Stimulus.{ScriptFault, bad_script, no_such_cell, 
 use Rattle.line_order.specs.Faults.{IsFault}
 use Rattle.sim_text.specs.declared.fault.StimFault.{StimFault}
 use Rattle.sim_text.specs.declared.fault.StimFault.TheVariants.{BadStimulus, NoMemory as NoStimulus}
-use Rattle.sim_text.specs.Faults.{IsStimFault}
+use Rattle.sim_text.specs.Faults.{IsStimFault, fault_of as line_of}
 use Rattle.sim_text.specs.Rows.{Rows}
 use Rattle.fault_script.specs.declared.fault.ScriptFault.{ScriptFault as ToldFault}
 use Rattle.fault_script.specs.declared.fault.ScriptFault.TheVariants.{BadScript, NoSuchCell, MoreThanSixteen, NoMemory as NoScript}
-use Rattle.fault_script.specs.Faults.{IsScriptFault}
+use Rattle.fault_script.specs.Faults.{IsScriptFault, fault_of as said_of}
 use Rattle.fault_script.specs.Scripts.{HasFaults, Scripted, faults_in}
 use Rattle.fault_sim.specs.Faults.{named_faults}
 use Rattle.fault_sim.specs.HasRun.{HasRun}
@@ -35,9 +35,9 @@ use Rattle.program_spec.specs.Steps.{gives, reading, script_in, stimulus_in}
 use Rattle.program_spec.specs.Verdict.{IsSimText, walk_of}
 use Rattle.impeccable.specs.declared.ended.Stop.{Stop}
 use Rattle.impeccable.specs.declared.sim.Simulation.{Simulation}
-use Rattle.impeccable.specs.Ended.{fault_answer, script_answer, stimulus_answer, stop_answer}
+use Rattle.impeccable.specs.Ended.{fault_answer, stop_answer}
 use Rattle.impeccable.specs.Loads.{StopsLoad, WhereHeld}
-use Rattle.impeccable.specs.Sim.{IsCycle, IsSame, IsTextOf, Ran}
+use Rattle.impeccable.specs.Sim.{IsCycle, IsSame, IsTextOfRun, Ran}
 use Rattle.impeccable.specs.Steps.{Passed, Stops}
 use Rattle.impeccable.proofs.OrderedLemmas.{IsHeld, of_file, file-read, file-ordered, file-unread, file-unordered, reads}
 use Rattle.impeccable.proofs.LoadsLemmas.{held-earlier, held-loaded, stops-earlier, tested-passes, tested-stops}
@@ -101,7 +101,7 @@ not-scripted n s t old mid new cells m stop p later is h =
     (subst (λ (k : List Name). StopsLoad (List Fault) mid t other_limit (λ bytes. gives (List Fault) ScriptFault (script_of k bytes) bad_script_line) (stop_answer stop) new) is h))
 
 -- the reading of a stimulus
-pub stimulus-stops : (old new : FilesSeen) (name : List ℕ) (inputs : ℕ) (bytes : List ℕ) (fault : StimFault) (answer : Answer) → length bytes ≤ other_limit → (IsSome old.told → bytes_at old.told name ≡ Some bytes) → IsStimFault (stimulus_of inputs bytes) fault → answer ≡ stimulus_answer fault
+pub stimulus-stops : (old new : FilesSeen) (name : List ℕ) (inputs : ℕ) (bytes : List ℕ) (fault : StimFault) (answer : Answer) → length bytes ≤ other_limit → (IsSome old.told → bytes_at old.told name ≡ Some bytes) → IsStimFault (stimulus_of inputs bytes) fault → answer ≡ fault_answer ℕ bad_stimulus (line_of fault)
     → StopsLoad Stream old name other_limit (λ b. gives Stream ℕ (stimulus_of inputs b) bad_stimulus) answer new
 stimulus-stops old new name inputs bytes (BadStimulus line) answer short at h is =
     subst (λ a. StopsLoad Stream old name other_limit (λ b. gives Stream ℕ (stimulus_of inputs b) bad_stimulus) a new) (sym is)
@@ -119,7 +119,7 @@ said-stops old new name cells bytes fault answer short at h is =
     subst (λ a. StopsLoad (List Fault) old name other_limit (λ b. gives (List Fault) ScriptFault (script_of cells b) bad_script_line) a new) (sym is)
     (inr (tt, held-loaded old name bytes (Refused (script_of cells) fault) at (short, (fault, h, refl))))
 
-pub script-stops : (old new : FilesSeen) (name : List ℕ) (cells : List Name) (bytes : List ℕ) (fault : ToldFault) (answer : Answer) → length bytes ≤ other_limit → (IsSome old.told → bytes_at old.told name ≡ Some bytes) → IsScriptFault (script_of cells bytes) fault → answer ≡ script_answer fault
+pub script-stops : (old new : FilesSeen) (name : List ℕ) (cells : List Name) (bytes : List ℕ) (fault : ToldFault) (answer : Answer) → length bytes ≤ other_limit → (IsSome old.told → bytes_at old.told name ≡ Some bytes) → IsScriptFault (script_of cells bytes) fault → answer ≡ fault_answer ScriptFault bad_script_line (said_of fault)
     → StopsLoad (List Fault) old name other_limit (λ b. gives (List Fault) ScriptFault (script_of cells b) bad_script_line) answer new
 script-stops old new name cells bytes (BadScript line) answer short at h is = said-stops old new name cells bytes (bad_script line) answer short at h is
 script-stops old new name cells bytes (NoSuchCell line) answer short at h is = said-stops old new name cells bytes (no_such_cell line) answer short at h is
@@ -189,7 +189,7 @@ ran-more further old mid new c outs ran step = record {
 }
 
 -- the text of all cycles
-pub ran-whole : (old new : Simulation) (outs : List Bits) → Ran old (length old.stimulus.cycles) outs new → IsTextOf old (run_text outs)
+pub ran-whole : (old new : Simulation) (outs : List Bits) → Ran old (length old.stimulus.cycles) outs new → IsTextOfRun old (run_text outs)
 ran-whole old new outs ran = λ file faults simulates has.
     let h = ran.run file faults simulates has in
     record { states = h.states ++ new.sim.stored ∷ []; outs = outs; is_run = subst (λ (xs : Stream). Run file xs faults (h.states ++ new.sim.stored ∷ []) outs) (take-length old.stimulus.cycles) h.is_run; is_text = refl }

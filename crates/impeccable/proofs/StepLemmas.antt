@@ -74,7 +74,7 @@ pub reading-stops : (command : Command) (old new : FilesSeen) (bytes : List ℕ)
 reading-stops command old new bytes next fault stop p h =
     fault-stops command old new File Unread (reading bytes) next unreadable fault stop p (λ f e. (f, is-read-fault bytes fault h f e, refl)) (λ f. tt)
 
-is-settings-fault : (answer : Result Settings SettingsFault) (fault : Option SettingsFault) → IsSettingsFault answer fault → (f : SettingsFault) → fault ≡ Some f → answer ≡ Err f
+pub is-settings-fault : (answer : Result Settings SettingsFault) (fault : Option SettingsFault) → IsSettingsFault answer fault → (f : SettingsFault) → fault ≡ Some f → answer ≡ Err f
 is-settings-fault answer None h f e = absurd (cc)
 is-settings-fault answer (Some g) h f e = let same : g ≡ f = cc in h ∙ ap (λ x. Err x) same
 

@@ -4,12 +4,7 @@ use Rattle.imp_io.specs.declared.fault.SinkFault.{SinkFault}
 use Rattle.imp_io.specs.declared.fault.SinkFault.TheVariants.{Failed, NoMemory as NoRoom}
 use Rattle.blif_write.specs.declared.refusal.WriteRefusal.{WriteRefusal}
 use Rattle.blif_write.specs.declared.refusal.WriteRefusal.TheVariants.{Fault, NoMemory as NoSpace}
-use Rattle.stimulus_spec.specs.Stimulus.{bad_script, no_such_cell, more_than_sixteen}
-use Rattle.sim_text.specs.declared.fault.StimFault.{StimFault}
-use Rattle.sim_text.specs.declared.fault.StimFault.TheVariants.{BadStimulus, NoMemory as NoStimulus}
-use Rattle.fault_script.specs.declared.fault.ScriptFault.{ScriptFault}
-use Rattle.fault_script.specs.declared.fault.ScriptFault.TheVariants.{BadScript, NoSuchCell, MoreThanSixteen, NoMemory as NoScript}
-use Rattle.program_spec.specs.Refusals.{Refusal, bad_stimulus, bad_script_line}
+use Rattle.program_spec.specs.Refusals.{Refusal}
 use Rattle.program_spec.specs.ErrorLines.{Answer, done, found, usage, refused, read_fault, write_fault, no_memory}
 use Rattle.impeccable.specs.declared.ended.Success.{Success}
 use Rattle.impeccable.specs.declared.ended.Success.TheVariants.{Done, Found}
@@ -45,17 +40,6 @@ part_answer (Err stop) = stop_answer stop
 abbrev pub fault_answer : (F : Type 0) → (F → Refusal) → Option F → Answer
 fault_answer F told None = no_memory
 fault_answer F told (Some fault) = refused (told fault)
-
--- what a stimulus and a script that aren't read come to
-abbrev pub stimulus_answer : StimFault → Answer
-stimulus_answer (BadStimulus line) = refused (bad_stimulus line)
-stimulus_answer NoStimulus = no_memory
-
-abbrev pub script_answer : ScriptFault → Answer
-script_answer (BadScript line) = refused (bad_script_line (bad_script line))
-script_answer (NoSuchCell line) = refused (bad_script_line (no_such_cell line))
-script_answer (MoreThanSixteen line) = refused (bad_script_line (more_than_sixteen line))
-script_answer NoScript = no_memory
 
 -- what a put that fails comes to, and a text that isn't written whole
 abbrev pub sink_answer : SinkFault → Answer

@@ -13,7 +13,7 @@ use Rattle.impeccable.specs.declared.sim.Simulation.{Simulation}
 
 -- The stimulus has a bit for each data input, the faults of the script are of its cells, and there is a place for each
 -- data input and each output.
-pub record Fits (s : Simulation) : Type 0 where
+pub record HasPlaces (s : Simulation) : Type 0 where
   pub width : s.stimulus.inputs ≡ length s.sim.inputs
   pub cells : (c : ℕ) → All (λ (f : CellFault). f.cell.0 < length s.sim.cells) (faults_in s.script c)
   pub inputs : length s.inputs.items ≡ length s.sim.inputs
@@ -21,19 +21,19 @@ pub record Fits (s : Simulation) : Type 0 where
 
 -- It is so, and each latch has its init.
 pub record IsReady (s : Simulation) : Type 0 where
-  pub fits : Fits s
+  pub fits : HasPlaces s
   pub starts : s.sim.stored ≡ s.sim.inits
 
 -- The text is that of the run of the file that is simulated, under the faults that the script has.
-abbrev pub IsTextOf : Simulation → List ℕ → Type 0
-IsTextOf s text = (file : File) (faults : List Fault) → Simulates file s.sim → HasFaults s.sim.cells faults s.script → IsRunText file s.stimulus.cycles faults text
+abbrev pub IsTextOfRun : Simulation → List ℕ → Type 0
+IsTextOfRun s text = (file : File) (faults : List Fault) → Simulates file s.sim → HasFaults s.sim.cells faults s.script → IsRunText file s.stimulus.cycles faults text
 
 -- Nothing but stored bits and the bits of a cycle has changed.
 pub record IsSame (old new : Simulation) : Type 0 where
   pub netlist : new.sim ≡ record old.sim { stored = new.sim.stored }
   pub stimulus : new.stimulus ≡ old.stimulus
   pub script : new.script ≡ old.script
-  pub fits : Fits new
+  pub fits : HasPlaces new
 
 -- Cycle c was simulated.
 pub record IsCycle (old : Simulation) (c : ℕ) (new : Simulation) : Type 0 where

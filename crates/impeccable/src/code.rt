@@ -14,16 +14,13 @@ ghost use Rattle.impeccable.specs.Ended.{answer_of, is_done, part_answer};
 ghost use Rattle.impeccable.specs.Steps.{Prepares};
 
 use crate::ended::{Ended, Stop, Success};
-use crate::load::load_named;
+use crate::settings_file::load_settings;
 use arrayvec::ArrayVec;
 use block_code::{Code, Word};
 use distance::distance;
 use imp_io::{Blocks, Files, Sink, SinkFault};
 use itoa::Buffer;
-use settings::read;
 use std::alloc::Global;
-
-const LONGEST_SETTINGS: usize = 16_777_216;
 
 // The numbers that the report on a code tells, and the least data whose codeword has the weight of its distance.
 #[derive(Clone, Copy, Debug)]
@@ -63,8 +60,7 @@ fn read_settings<'a, F: Files>(
     ensures own { KeepsOwn (F.seen files.old) (F.seen files.new) (part_answer result) }
     ensures later { IsLater (F.seen files.old) (F.seen files.new) }
 {
-    let bytes = load_named(alloc, files, settings, LONGEST_SETTINGS)?;
-    let settings = read(alloc, &bytes)?;
+    let settings = load_settings(alloc, files, settings)?;
     let report = measure(&settings.code);
     Ok(report)
 }

@@ -156,10 +156,12 @@ impl<'a> From<OrderFault> for Stop<'a> {
 }
 
 impl<'a> From<StimFault> for Stop<'a> {
-    ghost use Rattle.std.specs.Prelude.{◌≡◌};
-    ghost use Rattle.impeccable.specs.Ended.{stimulus_answer, stop_answer};
+    ghost use Rattle.std.specs.Prelude.{◌≡◌, ℕ};
+    ghost use Rattle.sim_text.specs.Faults.{fault_of};
+    ghost use Rattle.program_spec.specs.Refusals.{bad_stimulus};
+    ghost use Rattle.impeccable.specs.Ended.{fault_answer, stop_answer};
 
-    ghost from_gives = { λ fault stop. stop_answer stop ≡ stimulus_answer fault };
+    ghost from_gives = { λ fault stop. stop_answer stop ≡ fault_answer ℕ bad_stimulus (fault_of fault) };
 
     fn from(fault: StimFault) -> Self {
         match fault {
@@ -171,9 +173,12 @@ impl<'a> From<StimFault> for Stop<'a> {
 
 impl<'a> From<ScriptFault> for Stop<'a> {
     ghost use Rattle.std.specs.Prelude.{◌≡◌};
-    ghost use Rattle.impeccable.specs.Ended.{script_answer, stop_answer};
+    ghost use Rattle.fault_script.specs.Faults.{fault_of};
+    ghost use Rattle.stimulus_spec.specs.Stimulus.{ScriptFault as SaidFault};
+    ghost use Rattle.program_spec.specs.Refusals.{bad_script_line};
+    ghost use Rattle.impeccable.specs.Ended.{fault_answer, stop_answer};
 
-    ghost from_gives = { λ fault stop. stop_answer stop ≡ script_answer fault };
+    ghost from_gives = { λ fault stop. stop_answer stop ≡ fault_answer SaidFault bad_script_line (fault_of fault) };
 
     fn from(fault: ScriptFault) -> Self {
         match fault {

@@ -16,8 +16,8 @@ ghost use Rattle.impeccable.specs.Steps.{Prepares};
 
 use crate::Refusal;
 use crate::ended::{Ended, Stop, Success};
-use crate::load::load_named;
-use blif_read::{File, read};
+use crate::netlist::load_netlist;
+use blif_read::File;
 use blif_write::write;
 use elaborate::{
     elaborate_ready, elaborated_sources_stand_for_their_files, flat, flat_netlists_are_flat,
@@ -26,8 +26,6 @@ use elaborate::{
 use imp_io::{Files, Sink};
 use named_netlist::Named;
 use std::alloc::{AllocError, Global};
-
-const LONGEST_NETLIST: usize = 268_435_456;
 
 /// Writes the flat netlist of the netlist of that name.
 pub(crate) fn write_flat<'a, F: Files, O: Sink>(
@@ -55,8 +53,7 @@ fn read_netlist<'a, F: Files>(
     ensures own { KeepsOwn (F.seen files.old) (F.seen files.new) (part_answer result) }
     ensures later { IsLater (F.seen files.old) (F.seen files.new) }
 {
-    let bytes = load_named(alloc, files, netlist, LONGEST_NETLIST)?;
-    let file = read(alloc, &bytes)?;
+    let file = load_netlist(alloc, files, netlist)?;
     if !is_flat_ready(alloc, &file)? {
         return Err(Stop::Refused(Refusal::NotYet));
     }

@@ -12,6 +12,7 @@ mod load;
 mod netlist;
 mod outcome;
 mod program;
+mod settings_file;
 mod sim;
 mod told;
 

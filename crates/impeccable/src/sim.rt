@@ -15,7 +15,7 @@ ghost use Rattle.fault_script.specs.Scripts.{HasFaults};
 ghost use Rattle.impeccable.specs.Answers.{Answers, KeepsOwn};
 ghost use Rattle.impeccable.specs.Ended.{answer_of, part_answer};
 ghost use Rattle.impeccable.specs.Loads.{LoadsTested};
-ghost use Rattle.impeccable.specs.Sim.{Fits, IsCycle, IsReady, IsTextOf, Ran};
+ghost use Rattle.impeccable.specs.Sim.{HasPlaces, IsCycle, IsReady, IsTextOfRun, Ran};
 ghost use Rattle.impeccable.specs.Steps.{PreparesEach};
 
 use crate::ended::{Ended, Stop, Success};
@@ -67,7 +67,7 @@ fn prepare<'a, F: Files>(
     script: &'a str,
     files: &mut F,
 ) -> Result<Simulation, Stop<'a>>
-    ensures prepares { PreparesEach (sim_command netlist.now stimulus.now script.now) IsTextOf (F.seen files.old) result (F.seen files.new) }
+    ensures prepares { PreparesEach (sim_command netlist.now stimulus.now script.now) IsTextOfRun (F.seen files.old) result (F.seen files.new) }
     ensures ready { IfOk result IsReady }
     ensures own { KeepsOwn (F.seen files.old) (F.seen files.new) (part_answer result) }
     ensures later { IsLater (F.seen files.old) (F.seen files.new) }
@@ -123,7 +123,7 @@ fn load_script<'a, F: Files>(
 // Simulates all cycles, and writes their lines.
 fn write_cycles<O: Sink>(simulation: &mut Simulation, out: &mut O) -> Result<(), SinkFault>
     requires { IsReady simulation.old }
-    ensures { (text : List ℕ) × IsTextOf simulation.old text × Puts (O.seen out.old) text result (O.seen out.new) }
+    ensures { (text : List ℕ) × IsTextOfRun simulation.old text × Puts (O.seen out.old) text result (O.seen out.new) }
 {
     let mut blocks = Blocks::new(out);
     put_cycles(simulation, &mut blocks);
@@ -144,7 +144,7 @@ fn put_cycles<O: Sink>(simulation: &mut Simulation, out: &mut Blocks<'_, O>)
 
 // Simulates one cycle.
 fn cycle(simulation: &mut Simulation, c: u32)
-    requires fits { Fits simulation.old }
+    requires fits { HasPlaces simulation.old }
     requires cycle { c < length simulation.old.stimulus.cycles }
     ensures { IsCycle simulation.old c simulation.new }
 {
