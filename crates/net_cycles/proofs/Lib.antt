@@ -1,0 +1,5 @@
+pub mod CycleLemmas
+pub mod FinishLemmas
+pub mod ReverseLemmas
+pub mod RootLemmas
+pub mod StackLemmas

@@ -1,0 +1,5 @@
+pub mod Cycles
+pub mod Finished
+pub mod Reversed
+pub mod Roots
+pub mod Visits
