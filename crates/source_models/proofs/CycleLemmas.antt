@@ -1,17 +1,21 @@
 -- Ordered nodes are on no cycle, and a walk over nodes that are left over finds one.
-use Rattle.std.proofs.Common.{◌≡◌, ◌==◌, ◌↔◌, ◌⊎◌, inl, inr, refl, sym, ◌∙◌, ap, ap₂, subst, ℕ, zero, suc, ◌<◌, ◌≤◌, Bool, true, false, cond, List, [], ◌∷◌, ◌++◌, length, get_or, take, drop, count_by, find, Some, slice_get, IsTrue, All, Contains, arith}
+use Rattle.std.proofs.Common.{◌≡◌, ◌==◌, ◌⊎◌, inl, inr, refl, sym, ◌∙◌, ap, ap₂, subst, ℕ, zero, suc, ◌+◌, ◌<◌, ◌≤◌, Bool, true, false, cond, List, [], ◌∷◌, ◌++◌, length, get_or, take, drop, count_by, find, Some, slice_get, All, Contains, arith}
 use Rattle.std.specs.List.{AllByRecursion, flat_map}
-use Rattle.std.proofs.lemmas.Bool.{cases_lt}
-use Rattle.std.proofs.lemmas.List.{get_or_default}
-use Rattle.std.proofs.lemmas.List.Elements.{All-from_get_or, All-take, recursion_from_All}
+use Rattle.std.proofs.Math.Seq.{get_or-append_seam}
+use Rattle.std.proofs.lemmas.Bool.{cases_Bool, cases_lt, cond-false, cond-true}
+use Rattle.std.proofs.lemmas.List.{get_or_append_left, get_or_default, length_push}
+use Rattle.std.proofs.lemmas.List.Elements.{All-from_get_or, All-take, Contains-get_or, recursion_from_All}
 use Rattle.std.proofs.lemmas.List.Sums.{sum_by-take-drop}
 use Rattle.std.proofs.lemmas.Option.{get_or_from_slice_get, slice_get-get_or, slice_get_within}
-use Rattle.net_graph.specs.Chains.{AreMarked, Chain, IsMarked, LeadsPast, ends_of}
-use Rattle.net_graph.proofs.MarkLemmas.{marked_within}
+use Rattle.net_graph.specs.Chains.{Chain, IsGraph, IsMarked, ends_of}
+use Rattle.net_graph.proofs.MarkLemmas.{marked_within, none_among}
 use Rattle.net_order.specs.Order.{AreDriven, IsKnown, IsLeftOver, IsOrder, OthersAreLeft}
 use Rattle.net_order.specs.Walks.{FollowsAlong, FollowsTo, IsWalkedLoop}
 use Rattle.net_order.proofs.OrderLemmas.{contained_counts}
-use Rattle.source_models.specs.Cycles.{IsClosed, IsOnCycle, IsEndsFirst, IsFirstOnCycle, Settles}
+use Rattle.net_cycles.specs.Cycles.{IsOnCycle, IsFirstOnCycle as IsFirst}
+use Rattle.net_cycles.proofs.FinishLemmas.{end_within}
+use Rattle.net_cycles.proofs.ReverseLemmas.{edge_within}
+use Rattle.source_models.specs.Cycles.{IsClosed, IsEndsFirst, IsFirstOnCycle, IsPart, Settles}
 
 -- ---- the first elements of a list, by their places
 
@@ -61,13 +65,6 @@ module _ (graph : List (List ℕ)) (order : List ℕ) (earlier : (k i j : ℕ) �
 with_step : (graph : List (List ℕ)) (n a c b : ℕ) → Contains (ends_of graph a) c → Chain graph n c b → Chain graph (suc n) a b
 with_step graph zero a c b e same = (a, refl, subst (λ (x : ℕ). Contains (ends_of graph a) x) same e)
 with_step graph (suc n) a c b e (d, chain, last) = (d, with_step graph n a c d e chain, last)
-
-pub past_is_cycle : (graph : List (List ℕ)) (i : ℕ) → LeadsPast graph 0 i i ↔ IsOnCycle graph i
-past_is_cycle graph i = ((λ (w : LeadsPast graph 0 i i). some w.0 w.1 w.2), λ (c : IsOnCycle graph i). (suc c.0, omega arith, c.1))
-  where
-    some : (n : ℕ) → 0 < n → Chain graph n i i → IsOnCycle graph i
-    some zero h chain = absurd (omega arith)
-    some (suc n) h chain = (n, chain)
 
 found_in : (p : ℕ → Bool) (xs : List ℕ) (k : ℕ) → find p xs ≡ Some k → Contains xs k × (p k ≡ true)
 found_in p [] k e = absurd (cc e)
@@ -178,35 +175,67 @@ all_ordered graph marks left order s none =
     there i (inl c) = c
     there i (inr m) = absurd (none i m)
 
-pub first_of_all : (graph : List (List ℕ)) (marks left : List Bool) (order : List ℕ) (k : ℕ) → Settles graph marks order left → IsFirstOnCycle graph left k → IsFirstOnCycle graph marks k
-first_of_all graph marks left order k s f =
-    record {
-      marked = s.left_marked k f.marked;
-      on_cycle = f.on_cycle;
-      none_before = λ i h m c. apart i h c (s.others i m);
-    }
-  where
-    apart : (i : ℕ) → i < k → IsOnCycle graph i → Contains order i ⊎ IsMarked left i → ⊥
-    apart i h c (inl o) = on_no_cycle graph order s.earlier s.once i o c
-    apart i h c (inr m) = f.none_before i h m c
+-- ---- the edges of the marked nodes alone
 
--- ---- the search
+pub part_begins : (graph : List (List ℕ)) (marks : List Bool) (part : List (List ℕ)) → part ≡ [] → IsPart graph marks 0 part
+part_begins graph marks part none = record { size = ap length none; rows = λ i h. absurd (omega arith) }
 
-pub search_within : (graph : List (List ℕ)) (marks : List Bool) (node : ℕ) → length marks ≡ length graph → (k : ℕ) × IsMarked marks k × IsOnCycle graph k
-    → ((i : ℕ) → i < node → IsMarked marks i → IsOnCycle graph i → ⊥) → node < length graph
-search_within graph marks node size (k, m, c) none = at (cases_lt k node)
+pub part_more : (graph : List (List ℕ)) (marks : List Bool) (nodes : ℕ) (part after : List (List ℕ)) (row : List ℕ) (b : Bool) → after ≡ part ++ row ∷ [] → row ≡ cond b (ends_of graph nodes) [] → b ≡ get_or marks nodes false
+    → IsPart graph marks nodes part → IsPart graph marks (nodes + 1) after
+part_more graph marks nodes part after row b now is mark p =
+    subst (IsPart graph marks (nodes + 1)) (sym now)
+    (record { size = omega (arith, length_push part row, p.size); rows = λ i h. at i h (cases_lt i nodes) })
   where
-    at : (k < node) ⊎ (node ≤ k) → node < length graph
-    at (inl h) = absurd (none k h m c)
-    at (inr h) = omega (arith, marked_within marks k m)
+    at : (i : ℕ) → i < nodes + 1 → (i < nodes) ⊎ (nodes ≤ i) → ends_of (part ++ row ∷ []) i ≡ cond (get_or marks i false) (ends_of graph i) []
+    at i h (inl early) = get_or_append_left part (row ∷ []) [] i (omega (arith, early, p.size)) ∙ p.rows i early
+    at i h (inr late) =
+        let here : i ≡ length part = omega (arith, p.size) in
+        let same : nodes ≡ i = omega arith in
+        ap (λ (j : ℕ). ends_of (part ++ row ∷ []) j) here
+        ∙ (get_or-append_seam part row [] [] ∙ (is ∙ (ap (λ (c : Bool). cond c (ends_of graph nodes) []) mark ∙ ap (λ (j : ℕ). cond (get_or marks j false) (ends_of graph j) []) same)))
 
--- whether the node is reached by one edge or more
-pub cycle_mark : (graph : List (List ℕ)) (marks reached : List Bool) (node : ℕ) (b : Bool) → AreMarked (length graph) reached (LeadsPast graph 0 node) → node < length graph
-    → get_or marks node false ≡ true → b ≡ get_or reached node b → IsTrue b ↔ (IsMarked marks node × IsOnCycle graph node)
-cycle_mark graph marks reached node b are h marked is = (
-  λ t. (marked, (past_is_cycle graph node).0 ((are.exact node).0 (sym here ∙ t))),
-  λ (w : IsMarked marks node × IsOnCycle graph node). here ∙ (are.exact node).1 ((past_is_cycle graph node).1 w.1),
-)
-  where
-    here : b ≡ get_or reached node false
-    here = is ∙ get_or_default reached node b false (omega (arith, are.each_node))
+module _ (graph part : List (List ℕ)) (marks : List Bool) (is : IsGraph graph) (size : length marks ≡ length graph) (closed : IsClosed graph marks) (p : IsPart graph marks (length graph) part) where
+  whole_row : (i : ℕ) → IsMarked marks i → ends_of part i ≡ ends_of graph i
+  whole_row i m = p.rows i (omega (arith, marked_within marks i m, size)) ∙ cond-true (get_or marks i false) (ends_of graph i) [] m
+
+  part_edge : (i j : ℕ) → Contains (ends_of part i) j → IsMarked marks i × Contains (ends_of graph i) j
+  part_edge i j c = at (cases_Bool (get_or marks i false))
+    where
+      within : i < length graph
+      within = omega (arith, edge_within part i j c, p.size)
+
+      at : (get_or marks i false ≡ true) ⊎ (get_or marks i false ≡ false) → IsMarked marks i × Contains (ends_of graph i) j
+      at (inl m) = (m, subst (λ (l : List ℕ). Contains l j) (whole_row i m) c)
+      at (inr none) = absurd (none_among j (subst (λ (l : List ℕ). Contains l j) (p.rows i within ∙ cond-false (get_or marks i false) (ends_of graph i) [] none) c))
+
+  chain_of_part : (n a b : ℕ) → Chain part n a b → Chain graph n a b
+  chain_of_part zero a b same = same
+  chain_of_part (suc n) a b (c, chain, last) = (c, chain_of_part n a c chain, (part_edge c b last).1)
+
+  chain_in_part : (n a b : ℕ) → IsMarked marks a → Chain graph n a b → Chain part n a b × IsMarked marks b
+  chain_in_part zero a b m same = (same, subst (λ (x : ℕ). IsMarked marks x) same m)
+  chain_in_part (suc n) a b m (c, chain, last) =
+      let r = chain_in_part n a c m chain in
+      ((c, r.0, subst (λ (l : List ℕ). Contains l b) (sym (whole_row c r.1)) last), closed c b r.1 last)
+
+  in_part : (i : ℕ) → IsMarked marks i → IsOnCycle graph i → IsOnCycle part i
+  in_part i m (n, chain) = (n, (chain_in_part (suc n) i i m chain).0)
+
+  of_part : (i : ℕ) → IsOnCycle part i → IsMarked marks i × IsOnCycle graph i
+  of_part i (n, (c, chain, last)) = let e = part_edge c i last in (closed c i e.0 e.1, (n, chain_of_part (suc n) i i (c, chain, last)))
+
+  pub part_is_graph : IsGraph part
+  part_is_graph =
+      All-from_get_or (λ ends. All (λ k. k < length part) ends) part []
+      (λ i h. All-from_get_or (λ k. k < length part) (ends_of part i) 0 (λ k inside. within i (get_or (ends_of part i) k 0) (Contains-get_or (ends_of part i) k 0 inside)))
+    where
+      within : (i j : ℕ) → Contains (ends_of part i) j → j < length part
+      within i j c = let e = part_edge i j c in omega (arith, p.size, end_within graph is i j (edge_within graph i j e.1) e.1)
+
+  pub first_of_part : (i : ℕ) → IsFirst part i → IsFirstOnCycle graph marks i
+  first_of_part i f =
+      let w = of_part i f.on_cycle in
+      record { marked = w.0; on_cycle = w.1; none_before = λ k h m c. f.none_before k h (in_part k m c) }
+
+  pub some_in_part : (k : ℕ) × IsMarked marks k × IsOnCycle graph k → ((i : ℕ) → IsOnCycle part i → ⊥) → ⊥
+  some_in_part (k, m, c) none = none k (in_part k m c)

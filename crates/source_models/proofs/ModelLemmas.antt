@@ -18,7 +18,8 @@ use Rattle.net_graph.specs.Chains.{AreMarked, Chain, IsGraph, IsMarked, LeadsPas
 use Rattle.net_graph.proofs.MarkLemmas.{marked_within}
 use Rattle.source_nets.specs.Survey.{AreUsedMarks, IsModelGraph}
 use Rattle.source_nets.proofs.SurveyLemmas.{row_at}
-use Rattle.source_models.specs.Cycles.{IsClosed, IsEndsFirst, IsFirstOnCycle, IsOnCycle}
+use Rattle.net_cycles.specs.Cycles.{IsOnCycle}
+use Rattle.source_models.specs.Cycles.{IsClosed, IsEndsFirst, IsFirstOnCycle}
 use Rattle.source_models.specs.Order.{IsPlacedFirst}
 use Rattle.source_models.proofs.CycleLemmas.{on_no_cycle}
 

@@ -1,16 +1,13 @@
 -- Cycles of a graph, and orders of marked nodes in which each stands behind its ends.
-use Rattle.std.specs.Prelude.{◌≡◌, ◌==◌, ◌↔◌, ◌⊎◌, ℕ, suc, ◌<◌, ◌≤◌, Bool, List, take, count_by, Some, slice_get, Contains}
-use Rattle.net_graph.specs.Chains.{Chain, IsMarked, ends_of}
+use Rattle.std.specs.Prelude.{◌≡◌, ◌==◌, ◌↔◌, ◌⊎◌, ℕ, ◌<◌, ◌≤◌, Bool, false, List, [], if◌then◌else◌, length, take, count_by, Some, slice_get, slice_index_or, Contains}
+use Rattle.net_cycles.specs.Cycles.{IsOnCycle}
+use Rattle.net_graph.specs.Chains.{IsMarked, ends_of}
 use Rattle.source_models.specs.declared.sort.Sorted.{Sorted}
 use Rattle.source_models.specs.declared.sort.Sorted.TheVariants.{Order, OnCycle}
 
 -- An edge from a marked node leads to a marked one.
 abbrev pub IsClosed : List (List ℕ) → List Bool → Type 0
 IsClosed graph marks = (i j : ℕ) → IsMarked marks i → Contains (ends_of graph i) j → IsMarked marks j
-
--- a chain of at least one edge back to the node
-abbrev pub IsOnCycle : List (List ℕ) → ℕ → Type 0
-IsOnCycle graph i = (n : ℕ) × Chain graph (suc n) i i
 
 -- The order has the marked nodes, each once, and what an edge leads to from a node stands before it.
 pub record IsEndsFirst (graph : List (List ℕ)) (marks : List Bool) (order : List ℕ) : Type 0 where
@@ -32,6 +29,11 @@ pub record IsFirstOnCycle (graph : List (List ℕ)) (marks : List Bool) (i : ℕ
   pub marked : IsMarked marks i
   pub on_cycle : IsOnCycle graph i
   pub none_before : (k : ℕ) → k < i → IsMarked marks k → IsOnCycle graph k → ⊥
+
+-- The first rows of the graph, where those of nodes without a mark are empty.
+pub record IsPart (graph : List (List ℕ)) (marks : List Bool) (nodes : ℕ) (part : List (List ℕ)) : Type 0 where
+  pub size : length part ≡ nodes
+  pub rows : (i : ℕ) → i < nodes → ends_of part i ≡ (if slice_index_or marks i false then ends_of graph i else [])
 
 abbrev pub IsSorted : List (List ℕ) → List Bool → Sorted → Type 0
 IsSorted graph marks (Order order) = IsEndsFirst graph marks order.items

@@ -1,9 +1,11 @@
 // Nodes of a graph in an order in which each stands behind its ends, or the first one on a cycle.
-ghost use Rattle.std.specs.Prelude.{◌≡◌, ◌<◌, ◌↔◌, ◌∷◌, [], ℕ, length, slice_index_or, Contains, IfOk, IsTrue};
+ghost use Rattle.std.specs.Prelude.{◌≡◌, ◌<◌, ◌∷◌, [], ℕ, if◌then◌else◌, length, slice_index_or, IfOk};
+ghost use Rattle.net_cycles.specs.Cycles.{IsOnCycle};
 ghost use Rattle.net_graph.specs.Chains.{IsGraph, IsMarked, ends_of};
-ghost use Rattle.source_models.specs.Cycles.{IsClosed, IsFirstOnCycle, IsOnCycle, IsSorted, Settles};
+ghost use Rattle.source_models.specs.Cycles.{IsClosed, IsFirstOnCycle, IsPart, IsSorted, Settles};
 
-use net_graph::{Graph, reach_past};
+use net_cycles::first_on_cycle;
+use net_graph::Graph;
 use net_order::{Settled, settle, walk};
 use std::alloc::{AllocError, Global};
 
@@ -14,8 +16,8 @@ pub(crate) enum Sorted {
     OnCycle(usize),
 }
 
-// The order is found in linear work. Where nodes are left over, each has an edge to one of them, so that a walk over them ends
-// in a cycle. Then they are searched one by one.
+// The work is linear in nodes and edges. Where nodes are left over, each has an edge to one of them, so that a walk over them
+// ends in a cycle.
 pub(crate) fn sort(alloc: Global, graph: &Graph, marks: &[bool]) -> Result<Sorted, AllocError>
     requires graph { IsGraph graph.now }
     requires marks { length marks.now ≡ length graph.now }
@@ -28,7 +30,7 @@ pub(crate) fn sort(alloc: Global, graph: &Graph, marks: &[bool]) -> Result<Sorte
     match cycle {
         None => Ok(Sorted::Order(settled.order)),
         Some(_) => {
-            let node = first_on_cycle(alloc, graph, &settled.left)?;
+            let node = first_of_marked(alloc, graph, marks)?;
             Ok(Sorted::OnCycle(node))
         }
     }
@@ -68,34 +70,36 @@ fn places(alloc: Global, nodes: usize) -> Result<Vec<usize>, AllocError>
 }
 
 // The first marked node that is on a cycle, where there is one.
-fn first_on_cycle(alloc: Global, graph: &Graph, marks: &[bool]) -> Result<usize, AllocError>
+fn first_of_marked(alloc: Global, graph: &Graph, marks: &[bool]) -> Result<usize, AllocError>
     requires graph { IsGraph graph.now }
     requires marks { length marks.now ≡ length graph.now }
+    requires closed { IsClosed graph.now marks.now }
     requires some { (k : ℕ) × IsMarked marks.now k × IsOnCycle graph.now k }
     ensures { IfOk result (IsFirstOnCycle graph.now marks.now) }
 {
-    let mut node = 0;
-    while !is_on_cycle(alloc, graph, marks, node)? {
-        node += 1;
+    let part = part_of(alloc, graph, marks)?;
+    let first = first_on_cycle(alloc, &part)?;
+    match first {
+        Some(node) => Ok(node),
+        None => unreachable!(),
     }
-    Ok(node)
 }
 
-// Whether a node is marked and on a cycle.
-fn is_on_cycle(
-    alloc: Global,
-    graph: &Graph,
-    marks: &[bool],
-    node: usize,
-) -> Result<bool, AllocError>
-    requires graph { IsGraph graph.now }
-    requires marks { length marks.now ≡ length graph.now }
-    requires node { node < length graph.now }
-    ensures { IfOk result (λ b. IsTrue b ↔ (IsMarked marks.now node × IsOnCycle graph.now node)) }
+// The graph without the edges of nodes that have no mark.
+fn part_of(alloc: Global, graph: &Graph, marks: &[bool]) -> Result<Graph, AllocError>
+    requires { length marks.now ≡ length graph.now }
+    ensures { IfOk result (λ part. IsPart graph.now marks.now (length graph.now) part) }
 {
-    if !marks[node] {
-        return Ok(false);
+    let mut part = Graph::new(alloc);
+    for node in 0..graph.len() {
+        part.push_row(ends_if(marks[node], graph, node))?;
     }
-    let reached = reach_past(alloc, graph, node, 0)?;
-    Ok(reached[node])
+    Ok(part)
+}
+
+fn ends_if(is_marked: bool, graph: &Graph, node: usize) -> &[usize]
+    requires { node < length graph.now }
+    ensures { result.now ≡ (if is_marked then ends_of graph.now node else []) }
+{
+    if is_marked { graph.row(node) } else { &[] }
 }

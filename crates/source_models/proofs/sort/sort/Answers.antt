@@ -2,8 +2,7 @@ use Rattle.std.proofs.Common.{◌≡◌, ◌∙◌, sym, ap, subst, ℕ, ◌<◌
 use Rattle.net_graph.specs.Chains.{IsMarked, ends_of}
 use Rattle.net_graph.proofs.MarkLemmas.{marked_within}
 use Rattle.net_order.specs.Walks.{IsWalkedLoop}
-use Rattle.source_models.specs.Cycles.{IsFirstOnCycle}
-use Rattle.source_models.proofs.CycleLemmas.{all_ordered, first_of_all, walked_cycle}
+use Rattle.source_models.proofs.CycleLemmas.{all_ordered, walked_cycle}
 use Rattle.source_models.proofs.sort.sort.Goals as goal
 
 own_driver : (drivers : List ℕ) (left : List Bool) (nodes : ℕ) → length left ≡ nodes → ((i : ℕ) → i < nodes → get_or drivers i 0 ≡ i) → (i : ℕ) → IsMarked left i → get_or drivers i 0 ≡ i
@@ -28,17 +27,12 @@ returns-in-None c =
     all_ordered c.args.graph.now c.args.marks.now c.in_ok-settled.settled.left.items c.in_ok-settled.settled.order.items c.in_ok-settled.ensures.settles
     (λ i m. none i (subst (λ (l : List Bool). IsMarked l i) (sym c.deref.ensures.value) m))
 
-pub first_on_cycle-requires-clause-some : goal.first_on_cycle-requires-clause-some
-first_on_cycle-requires-clause-some c =
+pub first_of_marked-requires-clause-some : goal.first_of_marked-requires-clause-some
+first_of_marked-requires-clause-some c =
     let left = c.in_ok-settled.settled.left.items in
     let drivers = c.in_ok-own_places.own_places.items in
     let told : IsWalkedLoop c.args.graph.now c.deref-2.result.now c.deref.result.now c.in-Some.field-0.items = rw c.in-Some.is at c.in_ok-cycle.ensures.told in
     let w = walked_cycle c.args.graph.now drivers left (own_driver drivers left c.len.result (c.in_ok-settled.ensures.size ∙ sym c.len.ensures) c.in_ok-own_places.ensures.own) c.in-Some.field-0.items
     (subst (λ (l : List ℕ). IsWalkedLoop c.args.graph.now l left c.in-Some.field-0.items) c.deref-2.ensures.value
     (subst (λ (l : List Bool). IsWalkedLoop c.args.graph.now c.deref-2.result.now l c.in-Some.field-0.items) c.deref.ensures.value told)) in
-    (w.0, subst (λ (l : List Bool). IsMarked l w.0) (sym c.deref-in-Some.ensures.value) w.1, w.2)
-
-pub returns-in_ok-node-in-Some : goal.returns-in_ok-node-in-Some
-returns-in_ok-node-in-Some c =
-    first_of_all c.args.graph.now c.args.marks.now c.in_ok-settled.settled.left.items c.in_ok-settled.settled.order.items c.in_ok-node-in-Some.node c.in_ok-settled.ensures.settles
-    (subst (λ (l : List Bool). IsFirstOnCycle c.args.graph.now l c.in_ok-node-in-Some.node) c.deref-in-Some.ensures.value c.in_ok-node-in-Some.ensures)
+    (w.0, c.in_ok-settled.ensures.settles.left_marked w.0 w.1, w.2)
