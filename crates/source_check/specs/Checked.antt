@@ -1,5 +1,5 @@
 -- What is known of a source that has a meaning.
-use Rattle.std.specs.Prelude.{◌≡◌, ℕ, List, map, min}
+use Rattle.std.specs.Prelude.{◌≡◌, ℕ, List, map}
 use Rattle.netlist_spec.specs.Netlist.{Model, File}
 use Rattle.netlist_spec.specs.Covers.{Library}
 use Rattle.netlist_spec.specs.Size.{cost_of}
@@ -8,9 +8,9 @@ use Rattle.source_nets.specs.Survey.{AreUsedMarks, IsSurvey}
 use Rattle.source_loops.specs.Orders.{AreOrders}
 use Rattle.source_check.specs.declared.types.Checked.{Checked}
 
--- what each statement of the main model costs, cut off at one more than a source may cost
+-- what each statement of the main model costs
 abbrev pub AreCosts : File → Library → List ℕ → Type 0
-AreCosts file library costs = (m : Model) → IsMain file m → costs ≡ map (λ s. min (cost_of file library s.what) 1000001) m.statements
+AreCosts file library costs = (m : Model) → IsMain file m → costs ≡ map (λ s. cost_of file library s.what) m.statements
 
 pub record IsChecked (file : File) (library : Library) (c : Checked) : Type 0 where
   pub survey : IsSurvey file library c.survey

@@ -12,7 +12,7 @@ ghost use Rattle.source_nets.specs.Ports.{IsSource, source_file, source_library}
 ghost use Rattle.source_nets.specs.Survey.{library_of};
 ghost use Rattle.source_models.specs.Order.{IsPlacedFirst};
 ghost use Rattle.source_check.specs.Checked.{IsChecked};
-ghost use Rattle.source_check.specs.Faults.{fault_of};
+ghost use Rattle.source_check.specs.Faults.{fault_of, HasNoRefusal, IsOnlyRefusal};
 ghost use Rattle.source_check.specs.Steps.{HasUsedMarks, PassesBelow};
 
 use crate::main_tests::{check_clocking, check_limits, check_reserved};
@@ -20,7 +20,7 @@ use crate::model_tests::{
     check_depth, check_drivers, check_latches, check_loops, check_names, check_ports, check_reads,
     check_recursion,
 };
-use crate::{Checked, ElabFault, files_are_sound_or_refused_once};
+use crate::{Checked, ElabFault, files_are_not_both_and_refused_once};
 use blif_read::File;
 use linear_layer::NamedLinear;
 use sbox_table::NamedTable;
@@ -44,12 +44,16 @@ pub fn check(
     ensures sound { OnOk result (IsSound (file_of file.now) (library_of tables.now linears.now)) }
     ensures checked { IfOk result (IsChecked (file_of file.now) (library_of tables.now linears.now)) }
     ensures refused { IfErr result (λ fault. IfSome (fault_of fault) (IsRefusedWith (file_of file.now) (library_of tables.now linears.now))) }
+    // A file is exactly one of sound and refused: the answer says which, unless it is want of memory.
+    ensures decided { MatchResult result
+        (λ c. IsSound (file_of file.now) (library_of tables.now linears.now) × HasNoRefusal (file_of file.now) (library_of tables.now linears.now))
+        (λ fault. IfSome (fault_of fault) (IsOnlyRefusal (file_of file.now) (library_of tables.now linears.now))) }
     // Where memory suffices, a sound file isn't refused, and one that is refused is told its refusal.
     ensures accepted { IsSound (file_of file.now) (library_of tables.now linears.now) → IsOkUnless result ElabFault.NoMemory }
     ensures told { (fault : SoundFault) → IsRefusedWith (file_of file.now) (library_of tables.now linears.now) fault
         → MatchResult result (λ c. ⊥) (λ other. IfSome (fault_of other) (λ told. told ≡ fault)) }
 {
-    files_are_sound_or_refused_once();
+    files_are_not_both_and_refused_once();
     let ports = port_marks(alloc, &file.models)?;
     let source = Source {
         file,

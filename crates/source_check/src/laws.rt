@@ -8,9 +8,8 @@ ghost use Rattle.netlist_spec.specs.SoundFaults.{IsRefusedWith, SoundFault};
 use netlist_spec::sound_files_are_not_refused;
 use refusal_laws::files_have_one_refusal;
 
-/// A file is not both sound and refused, and it has at most one refusal. So, where memory suffices, a file that is read is
-/// exactly one of the two, and what `check` answers is determined.
-pub fn files_are_sound_or_refused_once()
+/// A file is not both sound and refused, and it has at most one refusal. That it is one of the two is what `check` finds.
+pub fn files_are_not_both_and_refused_once()
     ensures not_both { (file : File) (library : Library) (fault : SoundFault)
         → IsSound file library → IsRefusedWith file library fault → ⊥ }
     ensures one_refusal { (file : File) (library : Library) (fault other : SoundFault)

@@ -11,5 +11,5 @@ mod types;
 
 pub use all_tests::check;
 pub use fault::ElabFault;
-pub use laws::files_are_sound_or_refused_once;
+pub use laws::files_are_not_both_and_refused_once;
 pub use types::Checked;

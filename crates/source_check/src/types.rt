@@ -3,8 +3,8 @@
 use source_nets::Survey;
 
 /// What is known of a source that has a meaning: what its statements are, which of its models are used, for each used model
-/// an order of its statements in which each net is settled before it is read, by their places, and the costs of the
-/// statements of the main model, each cut off at 1,000,001.
+/// an order of its statements in which each net is settled before it is read, by their places, and what each statement of the
+/// main model costs, at most 1,000,000 together.
 #[derive(Drop)]
 pub struct Checked {
     pub survey: Survey,

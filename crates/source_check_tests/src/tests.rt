@@ -150,10 +150,11 @@ fn row(alloc: Global, start: &[u8], count: u32, last: &str) -> Result<Vec<u8>, A
 
 #[test]
 fn sources_have_a_meaning_or_a_refusal(rt: HostRuntime) -> Result<(), Fail> {
-    let cases: [(&[u8], &[u8]); 58] = [
+    let cases: [(&[u8], &[u8]); 52] = [
         // nets that are driven twice
         (b".model m / .names y / .names y", b"E1 y"),
         (b".model\x00m / .inputs a / .names a \\", b"E1 a"),
+        (b".model m / .names a / .inputs a", b"E1 a"),
         (b".model m / .inputs a b a", b"E1 a"),
         (b".model m / .clock c c", b"E1 c"),
         (b".model m / .inputs a / .outputs a / .outputs a", b"E1 a"),
@@ -280,6 +281,10 @@ fn sources_have_a_meaning_or_a_refusal(rt: HostRuntime) -> Result<(), Fail> {
             b"E9 c a",
         ),
         (
+            b".model l / .outputs p / .names q p / 1 1 / .names p q / 1 1",
+            b"E9 p q",
+        ),
+        (
             b".model m / .subckt s / .end / .model s / .names y y",
             b"E9 y",
         ),
@@ -302,7 +307,23 @@ fn sources_have_a_meaning_or_a_refusal(rt: HostRuntime) -> Result<(), Fail> {
             b"E10 guard:k",
         ),
         (b".model m / .names guard:n", b"sound 2"),
-        // two refusals at once
+        // statements in another order than their nets settle
+        (
+            b".model m / .inputs a b / .outputs y / .subckt s i=w o=y / .names a b w / 11 1 / .end / .model s / .inputs i / .outputs o / .names i o / 0 1",
+            b"sound 17",
+        ),
+    ];
+    for (text, expected) in cases {
+        let text = lines(rt.alloc(), text)?;
+        assert_eq!(rt; told(rt.alloc(), &text, &[], &[])?.as_slice(), expected);
+    }
+    Ok(())
+}
+
+#[test]
+fn the_first_of_two_findings_is_told(rt: HostRuntime) -> Result<(), Fail> {
+    let cases: [(&[u8], &[u8]); 10] = [
+        // of two tests
         (b".model m / .subckt t / .names y / .names y", b"E1 y"),
         (
             b".model m / .outputs y / .subckt s / .end / .model s / .names z / .names z",
@@ -323,10 +344,14 @@ fn sources_have_a_meaning_or_a_refusal(rt: HostRuntime) -> Result<(), Fail> {
         ),
         (b".model m / .clock k / .outputs k / .names y y", b"E8 k"),
         (b".model m / .inputs guard:x / .names y y", b"E9 y"),
-        // statements in another order than their nets settle
+        // of one test: latches before clocks, and models in file order
         (
-            b".model m / .inputs a b / .outputs y / .subckt s i=w o=y / .names a b w / 11 1 / .end / .model s / .inputs i / .outputs o / .names i o / 0 1",
-            b"sound 17",
+            b".model m / .inputs c k d / .outputs c / .latch d a re c 0 / .latch d b re k 0",
+            b"E8 b",
+        ),
+        (
+            b".model m / .subckt t / .subckt s / .end / .model s / .latch a a 0 / .end / .model t / .latch b b 0",
+            b"E5 s",
         ),
     ];
     for (text, expected) in cases {
@@ -379,6 +404,24 @@ fn large_sources_have_a_meaning_or_a_refusal(rt: HostRuntime) -> Result<(), Fail
             row(alloc, b".model m\n.inputs a\n.outputs n0\n", 100_000, "a")?,
             b"sound 600000",
         ),
+    ];
+    for (text, expected) in &cases {
+        assert_eq!(rt; told(alloc, text, &[], &[])?.as_slice(), *expected);
+    }
+    Ok(())
+}
+
+#[test]
+fn the_first_of_two_findings_in_large_sources_is_told(rt: HostRuntime) -> Result<(), Fail> {
+    let alloc = rt.alloc();
+    // two models that stand too deep, the deeper one first
+    let mut deep = b".model top\n.subckt m0\n.end\n.model s\n.end\n".to_vec(alloc)?;
+    deep.extend_from_slice(&nested(alloc, 16, 1, b".subckt s\n")?)?;
+    let mut ports = numbered(alloc, b".model m\n.outputs", 4097, " p", "")?;
+    ports.extend_from_slice(b"\n.inputs")?;
+    let cases: [(Vec<u8>, &[u8]); 2] = [
+        (deep, b"E6 s"),
+        (numbered(alloc, &ports, 4097, " p", "")?, b"E11 inputs"),
     ];
     for (text, expected) in &cases {
         assert_eq!(rt; told(alloc, text, &[], &[])?.as_slice(), *expected);
