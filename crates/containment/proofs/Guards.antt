@@ -6,7 +6,7 @@ use Rattle.guard_spec.specs.Codes.{Mode, detect, correct, needed_distance, rail_
 use Rattle.guard_spec.specs.Words.{Settings, Layout}
 use Rattle.netlist_spec.specs.Runs.{Fault, IsSteady, IsMoving}
 use Rattle.guard_spec.specs.Contained.{Corrects}
-use Rattle.guard_spec.specs.Containment.{ContainsFaults, IsGuardFor}
+use Rattle.guard_spec.specs.Containment.{ContainsFaults, IsGuard, IsGuardFor}
 use Rattle.containment.specs.Nets.{AreSteady, AreMoving}
 use Rattle.containment.specs.Built.{IsCoded, IsBuilt}
 use Rattle.containment.specs.Written.{StandsForGates, IsBuiltText, IsBuiltDualText}
@@ -71,6 +71,11 @@ pub steady_guard : (text source : File) (s : Settings) → IsBuiltText text sour
 steady_guard text source s b allowed are_steady =
     guard_for text source s s.bound b allowed
     (contains_steady s.mode s.bound text source s b.shaped.source_model b.machine b.g b.d b.shaped.layout refl b.stands (coded text source s s.bound b) b.built b.tells b.wide b.rails allowed are_steady)
+
+-- The guard has the shape of the built text.
+pub shaped_guard : (text source : File) (s : Settings) (b : IsBuiltText text source s s.bound) → (guard : IsGuard text source s (IsSteady s.bound)) × (guard.shaped ≡ b.shaped)
+unfolding steady_guard guard_for
+shaped_guard text source s b = (steady_guard text source s b (IsSteady s.bound) (λ faults h. h), refl)
 
 pub moving_guard : (text source : File) (s : Settings) → IsBuiltText text source s (2 * s.bound) → IsGuardFor text source s (2 * s.bound) (IsMoving s.bound)
 moving_guard text source s b =

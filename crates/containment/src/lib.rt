@@ -182,6 +182,9 @@ pub fn built_texts_are_guards()
         → IsGuardWithin text source s }
     ensures steady { (text source : File) (s : Settings) → IsBuiltText text source s s.bound
         → IsGuard text source s (IsSteady s.bound) }
+    // The guard has the models and the words of the built text, so what is known of them is known of it.
+    ensures shaped { (text source : File) (s : Settings) (built : IsBuiltText text source s s.bound)
+        → (guard : IsGuard text source s (IsSteady s.bound)) × (guard.shaped ≡ built.shaped) }
     ensures moving { (text source : File) (s : Settings) → IsBuiltText text source s (2 * s.bound)
         → IsGuardFor text source s (2 * s.bound) (IsMoving s.bound) }
     ensures dual { (text source : File) (settings : Settings) (s : ℕ)

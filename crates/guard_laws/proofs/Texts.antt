@@ -1,13 +1,14 @@
 -- The text of a guard whose nets are named is the text of a gate list that was built for the source.
-use Rattle.std.proofs.Common.{◌≡◌, refl, ◌∙◌, ap, subst, ℕ, ◌+◌, ◌≤◌, List, length, Some, Ok, arith}
+use Rattle.std.proofs.Common.{◌≡◌, refl, sym, ◌∙◌, ap, subst, ℕ, ◌+◌, ◌≤◌, List, length, Some, Ok, arith}
 use Rattle.netlist_spec.specs.Netlist.{Model, File}
-use Rattle.netlist_spec.specs.Models.{main_model}
+use Rattle.netlist_spec.specs.Models.{main_model, output_nets}
 use Rattle.guard_spec.specs.Codes.{IsCode, IsDistance, data_places, needed_distance, rail_count}
 use Rattle.guard_spec.specs.Words.{Settings, Layout, IsLayout}
 use Rattle.guard_spec.specs.Plain.{IsMachineSizeWith, IsSizeWith}
 use Rattle.netlist_spec.specs.Elaborated.{Elaborated, IsElaborated}
 use Rattle.netlist_spec.specs.Gates.{Machine}
-use Rattle.guard_spec.specs.Shaped.{HasShape}
+use Rattle.guard_spec.specs.Shaped.{HasShape, IsShapedWithin}
+use Rattle.guard_spec.specs.Rails.{IsNoCodeword, RailsTellIn}
 use Rattle.guard_spec.specs.Regions.{Guarded}
 use Rattle.netlist_spec.specs.Written.{Named, IsNamed, file_of}
 use Rattle.named_netlist.proofs.WrittenModel.{written_model}
@@ -26,10 +27,16 @@ use Rattle.netlist_spec.specs.Runs.{IsSteady}
 use Rattle.guard_spec.specs.SettingsFile.{settings_of_bytes}
 use Rattle.netlist_spec.specs.Text.{text_of}
 use Rattle.named_netlist.proofs.NamedReads.{texts-are-read}
-use Rattle.containment.proofs.Guards.{steady_guard}
+use Rattle.containment.proofs.TellingTexts.{telling_text}
+use Rattle.containment.proofs.Guards.{shaped_guard}
 use Rattle.guard_laws.proofs.Kept.{built, telling}
 use Rattle.guard_laws.proofs.Sizes.{size_no_more}
 use Rattle.guard_laws.proofs.Shapes.{cells_counted, well_named, shape, rails_named}
+
+-- what the rails of a text of this shape tell
+abbrev TellsIn : (text source : File) (s : Settings) (radius : ℕ) → IsShapedWithin text source s radius → Type 0
+TellsIn text source s radius shaped =
+    RailsTellIn shaped.guard_model s.code shaped.layout (length (output_nets shaped.source_model)) (rail_count s.mode s.bound) (IsNoCodeword s.code)
 
 module _ (file : File) (s : Settings) (m : Model) (e : Elaborated) (g : Guarded) (n : Named) (l : Layout) (radius : ℕ) (main : main_model file ≡ Some m) (elaborated : IsElaborated file s.library m e) (is_layout : IsLayout m s l) (is_code : IsCode s.code)
     (guard : IsGuardOf g e.machine s.code s.mode radius (rail_count s.mode s.bound) l) (named : IsNamed n) (is : IsGuardNamed n g e s.code l) where
@@ -93,22 +100,37 @@ module _ (file : File) (s : Settings) (m : Model) (e : Elaborated) (g : Guarded)
           tells = telling g e.machine s.code s.mode radius (rail_count s.mode s.bound) l guard;
         }
 
+    -- What its rails tell on gates they tell on the text.
+    pub built_tells : TellsIn (file_of n) file s radius built_text.shaped
+    unfolding built_text
+    built_tells =
+        subst (λ (p : ℕ). RailsTellIn (written_model n) s.code l p (rail_count s.mode s.bound) (IsNoCodeword s.code)) elaborated.machine.outputs
+        (subst (λ (rails : ℕ). RailsTellIn (written_model n) s.code l (length e.machine.outputs) rails (IsNoCodeword s.code)) guard.rail_number
+        (telling_text n g e.machine named_guard s.code l (length e.machine.outputs) (IsNoCodeword s.code) (telling g e.machine s.code s.mode radius (rail_count s.mode s.bound) l guard)))
+
 module _ (source : File) (s : Settings) (radius : ℕ) (n : Named) (from : IsGuardFrom source s radius n) where
   pub text_is_built : IsBuiltText (file_of n) source s radius
   text_is_built = built_text source s from.m from.e from.g n from.l radius from.is_main from.elaborated from.is_layout from.is_code from.guard from.named from.is_named from.d from.gates from.size from.is_distance from.wide from.is_gates from.is_size
 
+  pub text_tells : TellsIn (file_of n) source s radius text_is_built.shaped
+  unfolding text_is_built
+  text_tells = built_tells source s from.m from.e from.g n from.l radius from.is_main from.elaborated from.is_layout from.is_code from.guard from.named from.is_named from.d from.gates from.size from.is_distance from.wide from.is_gates from.is_size
+
 pub guarding_text : (settings netlist : List ℕ) (source : File) (s : Settings) (n : Named) → settings_of_bytes settings ≡ Ok s → Reads netlist source → IsGuardFrom source s s.bound n → IsGuardText settings netlist (text_of n.unknown_inits (file_of n)) (λ t. IsSteady t)
-guarding_text settings netlist source s n is_settings reads from = record {
-  s = s;
-  is_settings = is_settings;
-  source = source;
-  is_source = reads;
-  g = file_of n;
-  text_of_g = record {
-    unknown = n.unknown_inits;
-    has_unknown = (from.m, from.is_main, from.is_named.unknown_inits ∙ from.elaborated.unknown_inits);
-    written = refl;
-    reading = texts-are-read n from.named;
-  };
-  guards = steady_guard (file_of n) source s (text_is_built source s s.bound n from) (IsSteady s.bound) (λ faults h. h);
-}
+guarding_text settings netlist source s n is_settings reads from =
+    let (guard, same) = shaped_guard (file_of n) source s (text_is_built source s s.bound n from) in
+    record {
+      s = s;
+      is_settings = is_settings;
+      source = source;
+      is_source = reads;
+      g = file_of n;
+      text_of_g = record {
+        unknown = n.unknown_inits;
+        has_unknown = (from.m, from.is_main, from.is_named.unknown_inits ∙ from.elaborated.unknown_inits);
+        written = refl;
+        reading = texts-are-read n from.named;
+      };
+      guards = guard;
+      tells = subst (TellsIn (file_of n) source s s.bound) (sym same) (text_tells source s s.bound n from);
+    }

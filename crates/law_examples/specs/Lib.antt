@@ -1,2 +1,3 @@
 pub mod PlacingMachine
 pub mod JoinedList
+pub mod ParityText

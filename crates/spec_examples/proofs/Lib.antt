@@ -19,5 +19,6 @@ pub mod Toggle
 pub mod InverterGuard
 pub mod WrongGuards
 pub mod Wire
+pub mod Unshown
 pub mod Corrector
 pub mod Thrice

@@ -104,7 +104,7 @@ module _ (x s y next : Bits) (step : GateStep toggle [] x s y next) where
 pub first_bit : (a b : Bool) (xs ys : Bits) → a ∷ xs ≡ b ∷ ys → a ≡ b
 first_bit a b xs ys e = cc
 
-right_store : (b : Bool) → codewords parity_code inverter_layout.state (b ∷ []) ≡ b ∷ b ∷ []
+pub right_store : (b : Bool) → codewords parity_code inverter_layout.state (b ∷ []) ≡ b ∷ b ∷ []
 right_store true = refl
 right_store false = refl
 

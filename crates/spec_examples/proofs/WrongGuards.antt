@@ -1,20 +1,27 @@
 -- Wrong guards don't meet the premises.
-use Rattle.std.proofs.Common.{◌≡◌, ◌≢◌, refl, sym, ◌∙◌, subst, ℕ, zero, suc, ◌<◌, ◌≤◌, ◌⊎◌, [], ◌∷◌, length, map, get_or, slice_get, true, false, inl, inr, Some, arith, Contains, lit≤, lit<}
+use Rattle.std.proofs.Common.{◌≡◌, ◌≢◌, refl, sym, ◌∙◌, ap, subst, ℕ, zero, suc, ◌+◌, ◌<◌, ◌≤◌, ◌⊎◌, List, [], ◌∷◌, ◌++◌, length, length-append, map, codes, get_or, slice_get, true, false, inl, inr, Some, arith, Contains, lit≤, lit<}
 use Rattle.std.proofs.lemmas.Option.{same_Some, slice_get_within}
 use Rattle.std.proofs.lemmas.List.{length-map}
 use Rattle.std.proofs.lemmas.List.Elements.{All-contains, All-from_recursion}
+use Rattle.std.specs.List.{flat_map, enumerate_from, range_with_len}
+use Rattle.netlist_spec.specs.Netlist.{Model}
+use Rattle.netlist_spec.specs.Placed.{port_names}
+use Rattle.netlist_spec.specs.Models.{output_nets}
+use Rattle.netlist_spec.specs.GuardNames.{check_name}
 use Rattle.netlist_spec.specs.Gates.{one, two, Machine, IsMachine, ReadsNet, GateStep}
 use Rattle.guard_spec.specs.Codes.{detect, correct}
 use Rattle.netlist_spec.specs.CellBits.{Bit, latch_bit, output_bit}
 use Rattle.guard_spec.specs.Regions.{Guarded, IsRegion, IsBitNet, CoversGates, HaveOwnNets, MayRead, AreSeparate, IsDataNet, ReadDataAlone}
 use Rattle.netlist_spec.specs.GateRanges.{Region, LiesIn}
 use Rattle.guard_spec.specs.Count.{Counts}
+use Rattle.guard_spec.specs.Words.{Words, all_numbers}
+use Rattle.guard_spec.specs.Shaped.{IsShaped, check_outputs, rail_outputs}
 use Rattle.guard_spec.specs.Rails.{RailsTell, SomeNoCodeword}
-use Rattle.spec_examples.specs.Examples.{parity_code, inverter_layout}
+use Rattle.spec_examples.specs.Examples.{parity_code, parity_settings, inverter_file, inverter_model, inverter_layout}
 use Rattle.containment.specs.Built.{IsBuilt}
 use Rattle.spec_examples.specs.Toggle.{toggle, thrice_code}
 use Rattle.spec_examples.specs.Wire.{wire}
-use Rattle.spec_examples.specs.WrongGuards.{copying_guard, pair, pair_layout, sharing_guard, fresh_guard, checking_guard, early_guard, blind_guard, silent_guard, loud_guard, sharing_corrector, set_toggle, unset_guard}
+use Rattle.spec_examples.specs.WrongGuards.{copying_guard, pair, pair_layout, sharing_guard, fresh_guard, checking_guard, early_guard, blind_guard, silent_guard, loud_guard, sharing_corrector, sharing_rails, copied_rail, one_rail_text, set_toggle, unset_guard}
 use Rattle.containment.proofs.Owners.{cells_have_one_bit}
 use Rattle.spec_examples.proofs.Tests.{untouched_by_test}
 use Rattle.spec_examples.proofs.Toggle.{differ_none}
@@ -45,6 +52,34 @@ pub loud_rail : RailsTell loud_guard parity_code inverter_layout 1 → ⊥
 loud_rail tell =
     let told = tell [] (false ∷ false ∷ []) ([]) (λ (n : ℕ). get_or (false ∷ false ∷ true ∷ true ∷ false ∷ false ∷ false ∷ false ∷ true ∷ false ∷ false ∷ false ∷ []) n false) (record { inputs = refl; latches = (refl, (refl, tt)); gates = (refl, (refl, (refl, (refl, (refl, (refl, (refl, (refl, (refl, (refl, tt)))))))))) }) 2 8 refl (lit≤ tt) (untouched_by_test loud_guard ([]) (output_bit 2) refl) in
     all_words (told.0 refl)
+
+-- The shared gate is faulty, and no cell of the second rail is.
+pub sharing_rail : RailsTell sharing_rails parity_code inverter_layout 1 → ⊥
+sharing_rail tell =
+    let told = tell [] (true ∷ false ∷ []) ((6, false) ∷ []) (λ (n : ℕ). get_or (true ∷ false ∷ false ∷ false ∷ true ∷ true ∷ false ∷ false ∷ false ∷ false ∷ false ∷ false ∷ []) n false) (record { inputs = refl; latches = (refl, (refl, tt)); gates = (refl, (refl, (refl, (refl, (refl, (refl, (refl, (refl, (refl, (refl, tt)))))))))) }) 3 11 refl (lit≤ tt) (untouched_by_test sharing_rails ((6, false) ∷ []) (output_bit 3) refl) in
+    let up : false ≡ true = told.1 (inl (inl (differ_none true false refl))) in cc up
+
+-- The last gate of the rail that is copied is faulty.
+pub rail_of_rail : RailsTell copied_rail parity_code inverter_layout 1 → ⊥
+rail_of_rail tell =
+    let told = tell [] (true ∷ false ∷ []) ((8, false) ∷ []) (λ (n : ℕ). get_or (true ∷ false ∷ false ∷ false ∷ true ∷ true ∷ true ∷ false ∷ false ∷ false ∷ false ∷ false ∷ []) n false) (record { inputs = refl; latches = (refl, (refl, tt)); gates = (refl, (refl, (refl, (refl, (refl, (refl, (refl, (refl, (refl, (refl, tt)))))))))) }) 3 11 refl (lit≤ tt) (untouched_by_test copied_rail ((8, false) ∷ []) (output_bit 3) refl) in
+    let up : false ≡ true = told.1 (inl (inl (differ_none true false refl))) in cc up
+
+-- The output, the check output and two rails are more than three outputs.
+more_outputs : (words : Words) → all_numbers words ≡ 0 ∷ [] → ◌≡◌ {A = ℕ} 3 (length ((codes "q" ∷ []) ++ check_outputs parity_code words ++ rail_outputs 2)) → ⊥
+more_outputs [] none few = cc none
+more_outputs (w ∷ words) numbers few =
+    let long = length-append (flat_map (λ (word : ℕ × List ℕ). map (check_name word.0) (range_with_len 0 1)) (enumerate_from 1 words)) (rail_outputs 2) in
+    absurd (omega arith)
+
+pub one_rail_is_too_few : IsShaped one_rail_text inverter_file parity_settings → ⊥
+one_rail_is_too_few shaped =
+    let source = same_Some inverter_model shaped.source_model shaped.is_source_model in
+    let text = same_Some _ shaped.guard_model shaped.is_guard_model in
+    more_outputs shaped.layout.output
+    (subst (λ (m : Model). all_numbers shaped.layout.output ≡ range_with_len 0 (length (output_nets m))) (sym source) shaped.is_layout.output.0)
+    (subst (λ (m : Model). ◌≡◌ {A = ℕ} 3 (length (port_names m.outputs ++ check_outputs parity_code shaped.layout.output ++ rail_outputs 2))) (sym source)
+    (subst (λ (g : Model). length (port_names g.outputs) ≡ length (port_names shaped.source_model.outputs ++ check_outputs parity_code shaped.layout.output ++ rail_outputs 2)) (sym text) (ap length shaped.shape.outputs)))
 
 -- A step of the source at state 0.
 pair_step : GateStep pair [] [] (false ∷ false ∷ []) [] (true ∷ true ∷ [])
@@ -147,6 +182,21 @@ early_is_not_separate separate = strays early_guard record { bit = output_bit 2;
     none : MayRead early_guard record { bit = output_bit 2; first = 6; end = 9 } 2 → ⊥
     none (inl h) = absurd (omega arith)
     none (inr (inl h)) = absurd (omega arith)
+    none (inr (inr (rail, (k, inside, e)))) = is_output k inside e
+
+pub rails_are_not_separate : AreSeparate sharing_rails → ⊥
+rails_are_not_separate separate = strays sharing_rails record { bit = output_bit 3; first = 9; end = 12 } 11 6 separate (5, lit< tt, refl) (lit≤ tt, lit< tt) (record { place = 9; number = refl; gate = two 14 6 10; is_gate = refl; reads = (0, lit< tt, refl) }) none
+  where
+    is_output : (k : ℕ) → k < 4 → get_or sharing_rails.machine.outputs k 6 ≡ 6 → ⊥
+    is_output zero h e = absurd (omega arith)
+    is_output (suc zero) h e = absurd (omega arith)
+    is_output (suc (suc zero)) h e = absurd (omega arith)
+    is_output (suc (suc (suc zero))) h e = absurd (omega arith)
+    is_output (suc (suc (suc (suc k)))) h e = absurd (omega arith)
+
+    none : MayRead sharing_rails record { bit = output_bit 3; first = 9; end = 12 } 6 → ⊥
+    none (inl h) = absurd (omega arith)
+    none (inr (inl h)) = absurd (let low = h.0 in omega arith)
     none (inr (inr (rail, (k, inside, e)))) = is_output k inside e
 
 -- The check output of the word reads the check latch.

@@ -1,9 +1,12 @@
 -- Small guards that are wrong.
-use Rattle.std.specs.Prelude.{true, false, List, [], ◌∷◌, ◌++◌}
+use Rattle.std.specs.Prelude.{true, false, List, [], ◌∷◌, ◌++◌, codes}
 use Rattle.netlist_spec.specs.Gates.{GateForm, constant, one, two, Machine}
 use Rattle.guard_spec.specs.Words.{Layout}
 use Rattle.netlist_spec.specs.CellBits.{latch_bit, output_bit}
 use Rattle.guard_spec.specs.Regions.{Guarded}
+use Rattle.netlist_spec.specs.Netlist.{File}
+use Rattle.netlist_spec.specs.Written.{given, store, next, check, rail, inner, file_of}
+use Rattle.spec_examples.specs.Toggle.{toggle_named}
 
 -- A guard of the wire that shows a copy of the data input in place of the input.
 abbrev pub copying_guard : Guarded
@@ -55,9 +58,9 @@ sharing_guard = record {
 
 -- The guards of the register that turns its bit: the gates of the four bits, and the three gates of each rail, are given.
 abbrev pub toggle_by : List GateForm → List GateForm → List GateForm → Guarded
-toggle_by bits rail other = record {
+toggle_by bits some_rail other_rail = record {
   machine = record {
-    net = record { leaves = 2; gates = bits ++ rail ++ other };
+    net = record { leaves = 2; gates = bits ++ some_rail ++ other_rail };
     inputs = 0;
     latches = record { d = 2; init = false } ∷ record { d = 3; init = false } ∷ [];
     outputs = 4 ∷ 5 ∷ 8 ∷ 11 ∷ [];
@@ -105,6 +108,22 @@ silent_guard = toggle_by right_bits right_rail (two 6 0 1 ∷ two 6 4 5 ∷ cons
 -- one rail is always 1
 abbrev pub loud_guard : Guarded
 loud_guard = toggle_by right_bits (two 6 0 1 ∷ two 6 4 5 ∷ constant true ∷ []) other_right_rail
+
+-- a rail compares the output word itself, and takes the gate for the state word from the other rail
+abbrev pub sharing_rails : Guarded
+sharing_rails = toggle_by right_bits right_rail (two 6 4 5 ∷ one false 9 ∷ two 14 6 10 ∷ [])
+
+-- a rail is a copy of the other one
+abbrev pub copied_rail : Guarded
+copied_rail = toggle_by right_bits right_rail (one false 8 ∷ one false 9 ∷ one false 10 ∷ [])
+
+-- The text has one rail where a bound of 1 asks for two.
+abbrev pub one_rail_text : File
+one_rail_text = file_of record toggle_named {
+  outputs = 4 ∷ 5 ∷ 8 ∷ [];
+  net = record { leaves = 2; gates = right_bits ++ right_rail };
+  labels = store 0 0 ∷ store 0 1 ∷ next 0 0 ∷ next 0 1 ∷ given (codes "q") ∷ check 0 0 ∷ inner 0 ∷ inner 1 ∷ rail 0 ∷ [];
+}
 
 -- One corrector, of the gates 3 to 6, for all bits of the word.
 abbrev pub sharing_corrector : Guarded

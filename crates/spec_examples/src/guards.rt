@@ -17,6 +17,7 @@ ghost use Rattle.containment.specs.Nets.{AreMoving, AreSteady};
 ghost use Rattle.containment.specs.OnGates.{CorrectsOnGates, DetectsOnGates, IsFaithfulOnGates};
 ghost use Rattle.spec_examples.specs.Refused.{ShareStoredNet, SharedCellsAreRefused, StrayReadsAreRefused, WrongNetsAreRefused, WrongRailsAreRefused};
 ghost use Rattle.spec_examples.specs.Toggle.{moving_faults, one_fault, thrice_code, thrice_guard, toggle, toggle_corrector, toggle_guard, toggle_named, toggle_text, two_faults};
+ghost use Rattle.spec_examples.specs.Unshown.{unshown, unshown_guard, unshown_layout};
 ghost use Rattle.spec_examples.specs.Wire.{wire, wire_guard, wire_layout};
 ghost use Rattle.containment.specs.Written.{IsBuiltText, IsNamedGuard, IsWellNamed, machine_of};
 
@@ -66,9 +67,17 @@ pub fn wire_guard_detects()
     ensures steady { DetectsOnGates wire_guard wire parity_code wire_layout (AreSteady 1) }
 {}
 
-/// Wrong guards don't meet the premises: a gate is shared by two data bits, or by two latches; check bits are taken from
-/// fresh data nets; rails watch the nets that latches store, or no output words; a rail is always 0 or always 1; one
-/// corrector serves all bits; check latches start at 0; an output is a copy of the data input that it ought to be.
+/// The premises hold of a guard of a source without outputs, of which the rails are all that it shows.
+pub fn unshown_guard_detects()
+    ensures telling { IsTellingGuard unshown_guard unshown parity_code 2 detect 1 unshown_layout }
+    ensures separate { AreSeparate unshown_guard × HaveOwnNets unshown_guard unshown }
+    ensures steady { DetectsOnGates unshown_guard unshown parity_code unshown_layout (AreSteady 1) }
+{}
+
+/// Wrong guards don't meet the premises: a gate is shared by two data bits, by two latches, or by two rails; check bits are
+/// taken from fresh data nets; rails watch the nets that latches store, or no output words; a rail is always 0 or always 1,
+/// or a copy of another one; there are too few rails; one corrector serves all bits; check latches start at 0; an output is
+/// a copy of the data input that it ought to be.
 pub fn wrong_guards_are_refused()
     ensures shared_cells { SharedCellsAreRefused }
     ensures stray_reads { StrayReadsAreRefused }

@@ -37,7 +37,7 @@ ghost use Rattle.spec_examples.specs.SourceExamples.{placing_file};
 
 pub use guards::{
     small_guard_corrects, small_guard_detects, small_guard_detects_moving_faults,
-    small_text_is_a_guard, wire_guard_detects, wrong_guards_are_refused,
+    small_text_is_a_guard, unshown_guard_detects, wire_guard_detects, wrong_guards_are_refused,
 };
 
 /// Two small texts say the files that a reader of BLIF expects.
