@@ -5,10 +5,8 @@ use Rattle.std.specs.List.{list_all, list_any, enumerate_from}
 use Rattle.netlist_spec.specs.Netlist.{Cover}
 use Rattle.netlist_spec.specs.Lines.{is_empty}
 use Rattle.netlist_spec.specs.Covers.{has_bit, row_fits, cover_value}
-use Rattle.netlist_spec.specs.Gates.{bit_number, two}
-use Rattle.gate_net.specs.declared.gate.NetId.{NetId}
-use Rattle.gate_net.specs.Gate.{net_number}
-use Rattle.lowering.specs.Answers.{HasOp, HasAnswers}
+use Rattle.netlist_spec.specs.Gates.{bit_number}
+use Rattle.lowering.specs.Answers.{HasOp}
 use mir.Val.{bool_byte}
 use Rattle.imp_text.specs.declared.cover.Row.{Row as ReadRow}
 use Rattle.blif_read.specs.View.{row_of}
@@ -184,15 +182,3 @@ has_op cover p q r s l m n o el em en eo ep eq er es =
     pick true false = er
     pick false true = eq
     pick false false = ep
-
--- a gate of two nets with that op
-pub two_inputs : (cover : Cover) (op : ℕ) (nets : List NetId) → length nets ≡ 2 → HasOp cover op
-    → HasAnswers (map net_number nets) cover (two op (net_number (get_or nets 0 (record { 0 = 0 }))) (net_number (get_or nets 1 (record { 0 = 0 }))))
-two_inputs cover op [] e h = absurd (omega arith)
-two_inputs cover op (a ∷ []) e h = absurd (omega arith)
-two_inputs cover op (a ∷ b ∷ []) e h =
-    record {
-      reads = ((0, omega arith, refl), ((1, omega arith, refl), tt));
-      answers = λ v. h.answers (v (net_number a)) (v (net_number b));
-    }
-two_inputs cover op (a ∷ b ∷ c ∷ nets) e h = absurd (omega arith)

@@ -71,6 +71,19 @@ fn one_input(cover: &Cover, a: NetId) -> Gate
     }
 }
 
+// The gate with the answers of a cover of two inputs. Where they are all 0 it reads nothing: as a cover of two inputs it would
+// have no row, which some readers of netlists refuse.
+fn two_inputs(cover: &Cover, a: NetId, b: NetId) -> Gate
+    ensures { HasAnswers (net_number a ∷ net_number b ∷ []) (cover_of cover.now) (gate_form result) }
+{
+    let op = op_of(cover);
+    if op.0 == 0 {
+        Gate::Const(false)
+    } else {
+        Gate::Two { op, a, b }
+    }
+}
+
 /// The gate with the answers of a cover that reads these nets, of which there are at most two.
 pub(crate) fn gate_of_cover(cover: &Cover, nets: &[NetId]) -> Gate
     requires { length nets.now ≤ 2 }
@@ -79,11 +92,7 @@ pub(crate) fn gate_of_cover(cover: &Cover, nets: &[NetId]) -> Gate
     match *nets {
         [] => Gate::Const(cover_value(cover, &[])),
         [a] => one_input(cover, a),
-        [a, b] => Gate::Two {
-            op: op_of(cover),
-            a,
-            b,
-        },
+        [a, b] => two_inputs(cover, a, b),
         _ => unreachable!(),
     }
 }
