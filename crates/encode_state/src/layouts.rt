@@ -16,7 +16,7 @@ use crate::checks::{check_all_marked, mark_words};
 use crate::named::named_words;
 use crate::taken::taken_words;
 use crate::types::Layout;
-use elaborate::Elaborated;
+use elaborated::Elaborated;
 use imp_text::{Name, NameId, Names};
 use settings::Settings;
 use std::alloc::Global;

@@ -10,7 +10,7 @@ use Rattle.guard_spec.specs.Words.{IsLayoutOver, IsPartition, Layout, LayoutFaul
 use Rattle.imp_text.specs.declared.names.NameId.{NameId}
 use Rattle.blif_read.specs.Ids.{IsIdOf}
 use Rattle.blif_read.specs.View.{name_at}
-use Rattle.elaborate.specs.Elaborated.{elaborated_of}
+use Rattle.elaborated.specs.Elaborated.{elaborated_of}
 use Rattle.settings.specs.Types.{settings_in}
 use Rattle.encode_state.specs.Faults.{IsFault, fault_of}
 use Rattle.encode_state.specs.Listed.{AreFound, ComesOnce, once_fault}
