@@ -1,10 +1,2 @@
-pub mod Elaborated
-pub mod Flat
-pub mod Labels
-pub mod Topological
-pub mod Marks
-pub mod OrderTests
-pub mod FlatForm
-pub mod FlatTests
-pub mod Ready
 pub mod Numbers
+pub mod Named

@@ -1,22 +1,10 @@
-//! From a source to a machine of gates, and to its flat netlist.
+//! From a source to the machine of gates that it stands for, with its names.
 #![tactic(auto)]
 
-mod cost;
-mod cover;
-mod elaborated;
-mod flat_nets;
-mod flat_ready;
-mod laws;
-mod marks;
 mod named;
 mod names;
-mod nets;
-mod order;
-mod ready;
+mod source;
 
-pub use elaborated::Elaborated;
-pub use flat_nets::{FlatNets, flat};
-pub use flat_ready::is_flat_ready;
-pub use laws::{elaborated_sources_stand_for_their_files, flat_netlists_are_flat};
-pub use named::name_flat;
-pub use ready::elaborate_ready;
+pub use named::named_source;
+pub use source::{checked_machine, elaborate, main_model};
+pub use source_check::ElabFault;

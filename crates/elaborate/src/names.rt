@@ -1,32 +1,21 @@
-// The names of a model, and their numbers.
-ghost use Rattle.std.specs.Prelude.{◌≡◌, ◌^◌, ◌<◌, length, map, filter_map, count_by, IfOk};
+// The names of a model, by their numbers.
+ghost use Rattle.std.specs.Prelude.{◌≡◌, ◌^◌, ◌<◌, map, filter_map, count_by, IfOk};
 ghost use Rattle.netlist_spec.specs.Models.{is_unknown as is_unknown_of};
-ghost use Rattle.blif_read.specs.declared.file.Port.{Port};
-ghost use Rattle.blif_read.specs.declared.file.Located.{Located};
+ghost use Rattle.blif_read.specs.declared.file.Port.{Port as ReadPort};
+ghost use Rattle.blif_read.specs.declared.file.Located.{Located as ReadLocated};
 ghost use Rattle.elaborate.specs.Numbers.{has_unknown_init as has_unknown_init_of, shown_id};
 
-use blif_read::{Located, NameId, Names, Port, Statement};
+use blif_read::{Located, NameId, Port, Statement};
 use std::alloc::{AllocError, Global};
 
-/// The same names with the same numbers.
-pub(crate) fn copy_names(alloc: Global, names: &Names) -> Result<Names, AllocError>
-    ensures { IfOk result (λ copy. copy ≡ names.now) }
-{
-    let mut copy = Names::new(alloc);
-    for i in 0..names.len() {
-        copy.intern(names.get(NameId(i)))?;
-    }
-    Ok(copy)
-}
-
-/// The names of ports.
+// The names of ports.
 pub(crate) fn port_ids(alloc: Global, ports: &[Port]) -> Result<Vec<NameId>, AllocError>
-    ensures { IfOk result (λ ids. ids.items ≡ map (λ (port : Port). port.name) ports.now) }
+    ensures { IfOk result (λ ids. ids.items ≡ map (λ (port : ReadPort). port.name) ports.now) }
 {
     ports.iter().map(|port| port.name).collect(alloc)
 }
 
-/// The outputs of the latches.
+// The outputs of the latches.
 pub(crate) fn latch_ids(alloc: Global, statements: &[Located]) -> Result<Vec<NameId>, AllocError>
     ensures { IfOk result (λ ids. ids.items ≡ filter_map shown_id statements.now) }
 {
@@ -57,10 +46,10 @@ fn has_unknown_init(statement: &Statement) -> bool
     }
 }
 
-/// How many latches have an init that is 2, 3 or missing.
+// How many latches have an init that is 2, 3 or missing.
 pub(crate) fn unknown_inits(statements: &[Located]) -> u32
-    requires { length statements.now < 2 ^ 32 }
-    ensures { result ≡ count_by (λ (located : Located). has_unknown_init_of located.what) statements.now }
+    requires { count_by (λ (located : ReadLocated). has_unknown_init_of located.what) statements.now < 2 ^ 32 }
+    ensures { result ≡ count_by (λ (located : ReadLocated). has_unknown_init_of located.what) statements.now }
 {
     statements
         .iter()

@@ -6,7 +6,7 @@ ghost use Rattle.imp_io.specs.MemSink.{HasDistinctNumbers};
 
 use blif_read::Clocking;
 use blif_write::write;
-use elaborate::{Elaborated, flat, name_flat};
+use elaborated::{Elaborated, flat, name_flat};
 use gate_net::{Gate, GateNet, LatchRow, Machine, NetId, Op};
 use imp_io::MemSink;
 use imp_text::{Name, Names};

@@ -1,4 +1,4 @@
-//! Tests of `elaborate`, by its public calls.
+//! Tests of `elaborate` and `elaborated`, by their public calls.
 #![tactic(auto)]
 
 #[cfg(test)]
@@ -8,4 +8,4 @@ mod long_texts;
 #[cfg(test)]
 mod machines;
 #[cfg(test)]
-mod ready;
+mod sources;

@@ -3,7 +3,8 @@ ghost use Rattle.std.specs.Prelude.{None};
 
 use blif_read::read;
 use blif_write::write;
-use elaborate::{elaborate_ready, flat, is_flat_ready, name_flat};
+use elaborate::elaborate;
+use elaborated::{flat, name_flat};
 use imp_io::{Sink, SinkFault};
 use named_netlist::Named;
 use std::alloc::{AllocError, Global};
@@ -26,7 +27,7 @@ impl Sink for Counted {
     }
 }
 
-// The flat netlist of a chain of so many inverters, if it is ready.
+// The flat netlist of a chain of so many inverters, if it has a meaning.
 fn chain(alloc: Global, inverters: u32) -> Result<Option<Named>, AllocError> {
     let mut text = b".model m\n.inputs n0\n.outputs y\n".to_vec(alloc)?;
     for n in 0..inverters {
@@ -41,10 +42,9 @@ fn chain(alloc: Global, inverters: u32) -> Result<Option<Named>, AllocError> {
     }
     match read(alloc, &text) {
         Ok(file) => {
-            if !is_flat_ready(alloc, &file)? {
+            let Ok(e) = elaborate(alloc, file, &[], &[]) else {
                 return Ok(None);
-            }
-            let e = elaborate_ready(alloc, &file)?;
+            };
             let nets = flat(alloc, &e)?;
             Ok(Some(name_flat(alloc, e, nets)?))
         }
@@ -55,7 +55,7 @@ fn chain(alloc: Global, inverters: u32) -> Result<Option<Named>, AllocError> {
 #[test]
 fn a_long_text_is_written_in_few_puts(rt: HostRuntime) -> Result<(), Fail> {
     let alloc = rt.alloc();
-    let g = chain(alloc, 3000)?.ok_or("it isn't ready")?;
+    let g = chain(alloc, 3000)?.ok_or("it has a meaning")?;
     let mut out = Counted { puts: 0, bytes: 0 };
     assert_eq!(rt; write(&g, &mut out), Ok(()));
     assert!(rt; out.bytes > 50_000);

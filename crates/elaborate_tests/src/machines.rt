@@ -1,23 +1,18 @@
 // Machines of sources: their gates, their unknown inits, and their runs.
 use blif_read::read;
-use elaborate::{Elaborated, elaborate_ready, is_flat_ready};
+use elaborate::elaborate;
+use elaborated::Elaborated;
 use gate_net::{Gate, NetId, Op};
 use std::alloc::{AllocError, Global};
 use std::test::Fail;
 
-// The machine of a text, where it is short and says a file that is ready.
+// The machine of a text, where it is short and has a meaning.
 fn machine_of(alloc: Global, text: &[u8]) -> Result<Option<Elaborated>, AllocError> {
     if text.len() > 1000 {
         return Ok(None);
     }
     match read(alloc, text) {
-        Ok(file) => {
-            if is_flat_ready(alloc, &file)? {
-                Ok(Some(elaborate_ready(alloc, &file)?))
-            } else {
-                Ok(None)
-            }
-        }
+        Ok(file) => Ok(elaborate(alloc, file, &[], &[]).ok()),
         Err(_) => Ok(None),
     }
 }
@@ -62,7 +57,7 @@ fn covers_become_gates(rt: HostRuntime) -> Result<(), Fail> {
         ),
         (
             b".model m\n.inputs a b\n.names a b y\n".as_slice(),
-            table(Op(0b0000)),
+            Gate::Const(false),
         ),
         (
             b".model m\n.inputs a b\n.names a y\n1 1\n".as_slice(),
@@ -97,7 +92,7 @@ fn inits_that_are_unknown_are_counted(rt: HostRuntime) -> Result<(), Fail> {
     let text =
         b".model m\n.inputs d\n.latch d a\n.latch d b 0\n.latch d c 1\n.latch d e 2\n.latch d f 3\n";
     let Some(e) = machine_of(rt.alloc(), text)? else {
-        panic!(rt; "it is ready");
+        panic!(rt; "it has a meaning");
     };
     assert_eq!(rt; e.unknown_inits, 3);
     Ok(())

@@ -1,7 +1,7 @@
 use Rattle.std.proofs.Common.{◌∙◌, sym, ap, Some, None, List, ◌∷◌, [], ◌++◌, append-nil}
 use Rattle.imp_text.specs.declared.names.NameId.{NameId}
 use Rattle.elaborate.specs.Numbers.{shown_by, shown_id}
-use Rattle.elaborate.proofs.NetLemmas.{given_next, no_output}
+use Rattle.elaborate.proofs.NameLemmas.{given_next, no_output}
 use Rattle.elaborate.proofs.names.latch_ids.Goals as goal
 use Rattle.elaborate.proofs.names.latch_ids.Goals.{in-Latch+in_ok-push, in_default}
 
