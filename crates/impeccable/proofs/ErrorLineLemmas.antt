@@ -1,12 +1,15 @@
 -- The line that a refusal puts to the error output.
-use Rattle.std.proofs.Common.{◌≡◌, ℕ, List, [], ◌∷◌, ◌++◌, refl, codes, append_assoc, append-nil, Option, None, Some}
+use Rattle.std.proofs.Common.{◌≡◌, ℕ, ◌+◌, List, [], ◌∷◌, ◌++◌, refl, sym, ap, ◌∙◌, codes, append_assoc, append-nil, get_or, take, drop, slice_get, unwrap_or, Option, None, Some}
 use Rattle.std.specs.Prelude.{decimal}
 use Rattle.std.specs.List.{flat_map}
-use Rattle.netlist_spec.specs.Netlist.{Quantity, cover_inputs, model_inputs, model_outputs, model_clocks, model_latches, file_statements, source_cost}
-use Rattle.netlist_spec.specs.Escapes.{escape, quantity_word}
+use Rattle.std.proofs.lemmas.Grind.{flat_map-append}
+use Rattle.std.proofs.lemmas.List.{take-append-drop, take_more}
+use Rattle.std.proofs.lemmas.Option.{slice_get_within, unwrap_or-slice_get}
+use Rattle.netlist_spec.specs.Netlist.{Name, Quantity, cover_inputs, model_inputs, model_outputs, model_clocks, model_latches, file_statements, source_cost}
+use Rattle.netlist_spec.specs.Escapes.{escape, escaped, quantity_word}
 use Rattle.program_spec.specs.ErrorLines.{error_line}
 use Rattle.impeccable.specs.declared.told.Tail.{Tail}
-use Rattle.impeccable.specs.Says.{front_text, place_text, tail_text, tailed_line}
+use Rattle.impeccable.specs.Says.{each_text, front_text, place_text, tail_text, tailed_line}
 
 spread-some : (p n l d t e z : List ℕ) → (p ++ (n ++ (l ++ (d ++ 32 ∷ [])))) ++ ((t ++ e) ++ z) ≡ (p ++ ((n ++ (l ++ d)) ++ 32 ∷ (t ++ e))) ++ z
 spread-some p n l d t e z = simp append_assoc
@@ -25,3 +28,15 @@ word_escaped model_clocks = refl
 word_escaped model_latches = refl
 word_escaped file_statements = refl
 word_escaped source_cost = refl
+
+-- one name more, and those that are still to come
+pub each-more : (names : List Name) (i : ℕ) (n : Name) → slice_get names i ≡ Some n → each_text (take i names) ++ 32 ∷ escaped n ≡ each_text (take (i + 1) names)
+each-more names i n is =
+    let found : get_or names i [] ≡ n = sym (unwrap_or-slice_get names i []) ∙ ap (λ (s : Option Name). unwrap_or s []) is in
+    let more : take (i + 1) names ≡ take i names ++ n ∷ [] = take_more names i [] (slice_get_within names i n is) ∙ ap (λ (k : Name). take i names ++ k ∷ []) found in
+    ap (λ (text : List ℕ). each_text (take i names) ++ text) (sym (append-nil (32 ∷ escaped n)))
+    ∙ sym (flat_map-append (λ k. 32 ∷ escaped k) (take i names) (n ∷ []))
+    ∙ ap each_text (sym more)
+
+pub each-left : (names : List Name) (i : ℕ) → each_text (take i names) ++ each_text (drop i names) ≡ each_text names
+each-left names i = sym (flat_map-append (λ k. 32 ∷ escaped k) (take i names) (drop i names)) ∙ ap each_text (take-append-drop i names)

@@ -9,7 +9,8 @@ use Rattle.program_spec.proofs.StepLaws.{one_kind, one_refusal, passes_not_refus
 use Rattle.impeccable.specs.declared.outcome.Outcome.{Outcome}
 use Rattle.impeccable.specs.declared.outcome.Outcome.TheVariants.{Done, Found, Usage, Refused, ReadFault, WriteFault, NoMemory}
 use Rattle.impeccable.specs.Outcome.{IsAnswer, refusal_of}
-use Rattle.impeccable.specs.Answers.{Answers, FindsThere, IsComplete, RefusesThere}
+use Rattle.impeccable.specs.Answers.{Answers, FindsThere, IsComplete, KeepsOwn, RefusesThere}
+use Rattle.impeccable.specs.Says.{Says}
 
 -- what is said of one answer, said of the same
 at : (command : Command) (old new : FilesSeen) (out out' : SinkSeen) (answer other : Answer) → answer ≡ other → Answers command old new out out' answer → Answers command old new out out' other
@@ -71,6 +72,11 @@ Answers-refuse command old new out out' answer WriteFault is h =
 Answers-refuse command old new out out' answer NoMemory is h = λ known refusal r calm. inr refl
 
 -- ---- of the command that was asked for
+
+pub asked-answers : (asked : Option Command) (command : Command) (old new : FilesSeen) (out out' err err' : SinkSeen) (answer : Answer) (outcome : Outcome) → Some command ≡ asked
+    → IsAnswer outcome answer → Answers command old new out out' answer → KeepsOwn old new answer → Says answer err err'
+    → IfSome asked (λ k. (a : Answer) × IsAnswer outcome a × Answers k old new out out' a × KeepsOwn old new a × Says a err err')
+asked-answers asked command old new out out' err err' answer outcome same is h own says = rw (sym same) (answer, is, h, own, says)
 
 pub asked-completes : (asked : Option Command) (command : Command) (old new : FilesSeen) (out out' : SinkSeen) (answer : Answer) (outcome : Outcome) → Some command ≡ asked → IsAnswer outcome answer → Answers command old new out out' answer → IfSome asked (λ k. IsComplete k old new out out' outcome)
 asked-completes asked command old new out out' answer outcome same is h = rw (sym same) (Answers-complete command old new out out' answer outcome is h)

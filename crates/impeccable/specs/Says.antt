@@ -6,15 +6,21 @@ use Rattle.imp_io.specs.Counts.{Stayed}
 use Rattle.imp_io.specs.Sink.{SinkSeen, AppendsPrefix, Puts}
 use Rattle.imp_io.specs.declared.fault.SinkFault.{SinkFault}
 use Rattle.program_spec.specs.ErrorLines.{Answer, answer_line}
-use Rattle.netlist_spec.specs.Escapes.{escape}
+use Rattle.netlist_spec.specs.Escapes.{escape, escaped}
 use Rattle.impeccable.specs.declared.told.Tail.{Tail}
-use Rattle.impeccable.specs.declared.told.Tail.TheVariants.{Nothing, Name}
+use Rattle.impeccable.specs.declared.told.Tail.TheVariants.{Nothing, Name, Pair, Each}
 use Rattle.impeccable.specs.declared.told.Told.{Told}
 
--- what is told behind a text
+-- names, each behind a blank
+abbrev pub each_text : List (List ℕ) → List ℕ
+each_text names = flat_map (λ n. 32 ∷ escaped n) names
+
+-- what is told behind a text: nothing, a name, two names with a blank between them, or names each behind a blank
 abbrev pub tail_text : Tail → List ℕ
 tail_text Nothing = []
 tail_text (Name name) = flat_map escape name.now
+tail_text (Pair one other) = escaped one.now ++ 32 ∷ escaped other.now
+tail_text (Each names) = each_text names.now
 
 -- a text, what is told behind it, and the end of the line
 abbrev pub tailed_line : List ℕ → Tail → List ℕ

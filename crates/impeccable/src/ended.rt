@@ -5,6 +5,7 @@ ghost use Rattle.impeccable.specs.Outcome.{IsAnswer};
 use crate::{Outcome, Refusal};
 use blif_read::BlifFault;
 use blif_write::WriteRefusal;
+use elaborate::ElabFault;
 use fault_script::ScriptFault;
 use imp_io::SinkFault;
 use line_order::OrderFault;
@@ -20,7 +21,7 @@ pub(crate) enum Success {
 }
 
 /// Why a command stopped, with the name of the file whose load failed.
-#[derive(Debug, Drop)]
+#[derive(Drop)]
 pub(crate) enum Stop<'a> {
     Usage,
     Refused(Refusal),
@@ -133,6 +134,33 @@ impl<'a> From<SetFault> for Stop<'a> {
             SetFault::UnknownKey(key) => Stop::Refused(Refusal::UnknownKey(key)),
             SetFault::BadShape => Stop::Refused(Refusal::BadShape),
             SetFault::NoMemory => Stop::NoMemory,
+        }
+    }
+}
+
+impl<'a> From<ElabFault> for Stop<'a> {
+    ghost use Rattle.std.specs.Prelude.{◌≡◌};
+    ghost use Rattle.source_check.specs.Faults.{fault_of};
+    ghost use Rattle.netlist_spec.specs.SoundFaults.{SoundFault};
+    ghost use Rattle.program_spec.specs.Refusals.{unsound};
+    ghost use Rattle.impeccable.specs.Ended.{fault_answer, stop_answer};
+
+    ghost from_gives = { λ fault stop. stop_answer stop ≡ fault_answer SoundFault unsound (fault_of fault) };
+
+    fn from(fault: ElabFault) -> Self {
+        match fault {
+            ElabFault::Twice(net) => Stop::Refused(Refusal::Twice(net)),
+            ElabFault::NoSuchModel(name) => Stop::Refused(Refusal::NoSuchModel(name)),
+            ElabFault::BadPort(model, formal) => Stop::Refused(Refusal::BadPort(model, formal)),
+            ElabFault::Recursion(model) => Stop::Refused(Refusal::Recursion(model)),
+            ElabFault::LatchInside(model) => Stop::Refused(Refusal::LatchInside(model)),
+            ElabFault::Depth(model) => Stop::Refused(Refusal::Depth(model)),
+            ElabFault::Undriven(net) => Stop::Refused(Refusal::Undriven(net)),
+            ElabFault::Clocking(net) => Stop::Refused(Refusal::Clocking(net)),
+            ElabFault::Loop(nets) => Stop::Refused(Refusal::Loop(nets)),
+            ElabFault::Reserved(name) => Stop::Refused(Refusal::Reserved(name)),
+            ElabFault::TooLarge(what) => Stop::Refused(Refusal::TooLarge(what)),
+            ElabFault::NoMemory => Stop::NoMemory,
         }
     }
 }

@@ -5,7 +5,7 @@ ghost use Rattle.impeccable.specs.Ended.{answer_of};
 ghost use Rattle.impeccable.specs.Says.{PutsAnswer, Says, front_text, tail_text, tailed_line, told_text};
 
 use crate::ended::{Ended, Stop};
-use crate::escaped::put_escaped;
+use crate::escaped::{put_each, put_escaped, put_pair};
 use crate::told::{Tail, Told, told_of};
 use imp_io::{Sink, SinkFault, put_all};
 use itoa::Buffer;
@@ -74,5 +74,7 @@ fn put_tail<E: Sink>(tail: Tail<'_>, err: &mut E) -> Result<(), SinkFault>
     match tail {
         Tail::Nothing => Ok(()),
         Tail::Name(name) => put_escaped(name, err),
+        Tail::Pair(one, other) => put_pair(one, other, err),
+        Tail::Each(names) => put_each(names, err),
     }
 }

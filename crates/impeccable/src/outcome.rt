@@ -1,10 +1,10 @@
 // How a call of the program ends.
 ghost use Rattle.std.specs.Prelude.{◌≡◌};
 
-use blif_read::{Name, Text, What};
+use blif_read::{Name, Names, Text, What};
 
 /// Why the input is refused. A number is that of a line, from 1.
-#[derive(Debug, Drop)]
+#[derive(Drop)]
 pub enum Refusal {
     /// The file of that name is longer than files of its kind may be.
     FileTooLong(Text),
@@ -40,6 +40,29 @@ pub enum Refusal {
     UnknownKey(Text),
     /// `check` is an array of texts, and no check matrix.
     BadShape,
+    /// The net has a second driver, or stands twice in `.inputs`, in `.outputs` or in `.clock`.
+    Twice(Name),
+    /// A `.subckt` names neither a model nor a library entry.
+    NoSuchModel(Name),
+    /// A formal is no port of the model, or is given twice, or an input port isn't given: the model and the port.
+    BadPort(Name, Name),
+    /// The model contains itself.
+    Recursion(Name),
+    /// A used model other than the main one has a latch: the model.
+    LatchInside(Name),
+    /// A chain of more than 16 `.subckt` leads to the model.
+    Depth(Name),
+    /// The net is read and has no driver.
+    Undriven(Name),
+    /// The output of a latch that is clocked otherwise than the first latch or by a control that isn't declared, or a clock
+    /// net that is read.
+    Clocking(Name),
+    /// The driver of each net reads the next one, and that of the last the first.
+    Loop(Names),
+    /// A name of the main model that a netlist can't be written with.
+    Reserved(Name),
+    /// The main model passes the limit of this count.
+    TooLarge(What),
     /// The line drives a net again, reads a net that no earlier line gives, passes on a net without a source or is clocked
     /// otherwise, or it is a second `.model`.
     Unordered(u32),
@@ -53,12 +76,10 @@ pub enum Refusal {
     NoSuchCell(u32),
     /// Sixteen earlier lines have the cycle of the line.
     MoreThanSixteen(u32),
-    /// The netlist has sub-models, a clock, a wide cover, or lines out of order; or it isn't sound.
-    NotYet,
 }
 
 /// How a call of the program ends.
-#[derive(Debug, Drop)]
+#[derive(Drop)]
 pub enum Outcome {
     /// The whole text was written.
     Done,

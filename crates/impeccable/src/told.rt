@@ -6,9 +6,10 @@ ghost use Rattle.impeccable.specs.Outcome.{refusal_of};
 ghost use Rattle.impeccable.specs.Says.{tail_text, told_text};
 
 use crate::Refusal;
+use blif_read::Names;
 
 /// The number of a refusal, that of a line of the input, what is wrong, and what is told behind that.
-#[derive(Clone, Copy, Debug)]
+#[derive(Clone, Copy)]
 pub(crate) struct Told<'a> {
     pub(crate) number: &'static str,
     pub(crate) line: Option<u32>,
@@ -16,11 +17,13 @@ pub(crate) struct Told<'a> {
     pub(crate) tail: Tail<'a>,
 }
 
-/// What is told behind the text of a refusal.
-#[derive(Clone, Copy, Debug)]
+/// What is told behind the text of a refusal: nothing, a name, two names, or names each of which follows a blank.
+#[derive(Clone, Copy)]
 pub(crate) enum Tail<'a> {
     Nothing,
     Name(&'a [u8]),
+    Pair(&'a [u8], &'a [u8]),
+    Each(&'a Names),
 }
 
 impl<'a> Tail<'a> {
@@ -60,13 +63,25 @@ pub(crate) fn told_of(refusal: &Refusal) -> Told<'_>
         Refusal::BadValue(key) => named("S3", "bad value ", key.bytes()),
         Refusal::UnknownKey(key) => named("S4", "unknown key ", key.bytes()),
         Refusal::BadShape => named("C1", "bad check matrix", b""),
+        Refusal::Twice(net) => named("E1", "twice ", net.bytes()),
+        Refusal::NoSuchModel(name) => named("E2", "no such model ", name.bytes()),
+        Refusal::BadPort(model, formal) => {
+            tailed("E3", "bad port ", Tail::Pair(model.bytes(), formal.bytes()))
+        }
+        Refusal::Recursion(model) => named("E4", "recursion ", model.bytes()),
+        Refusal::LatchInside(model) => named("E5", "latch inside ", model.bytes()),
+        Refusal::Depth(model) => named("E6", "too deep ", model.bytes()),
+        Refusal::Undriven(net) => named("E7", "undriven ", net.bytes()),
+        Refusal::Clocking(net) => named("E8", "clocking ", net.bytes()),
+        Refusal::Loop(nets) => tailed("E9", "loop", Tail::Each(nets)),
+        Refusal::Reserved(name) => named("E10", "reserved ", name.bytes()),
+        Refusal::TooLarge(what) => named("E11", "too large ", what.word().as_bytes()),
         Refusal::Unordered(line) => on_line("M1", *line, "unordered", b""),
         Refusal::HasSubckt(line) => on_line("M2", *line, "has subckt", b""),
         Refusal::BadStimulus(line) => on_line("M3", *line, "bad stimulus", b""),
         Refusal::BadScript(line) => on_line("M4", *line, "bad script", b""),
         Refusal::NoSuchCell(line) => on_line("M5", *line, "no such cell", b""),
         Refusal::MoreThanSixteen(line) => on_line("M6", *line, "more than sixteen", b""),
-        Refusal::NotYet => named("N1", "not yet", b""),
     }
 }
 
@@ -74,11 +89,18 @@ pub(crate) fn told_of(refusal: &Refusal) -> Told<'_>
 fn named<'a>(number: &'static str, text: &'static str, name: &'a [u8]) -> Told<'a>
     ensures { told_text result ≡ number.now ++ 32 ∷ (text.now ++ escaped name.now) }
 {
+    tailed(number, text, Tail::of(name))
+}
+
+// The same with whatever is told behind the text.
+fn tailed<'a>(number: &'static str, text: &'static str, tail: Tail<'a>) -> Told<'a>
+    ensures { told_text result ≡ number.now ++ 32 ∷ (text.now ++ tail_text tail.entry) }
+{
     Told {
         number,
         line: None,
         text,
-        tail: Tail::of(name),
+        tail,
     }
 }
 

@@ -94,7 +94,7 @@ apart_reads =
       };
     }
 
-placing_reads : Reads (codes ".model m\n.subckt s\n") placing_file
+pub placing_reads : Reads (codes ".model m\n.subckt s\n") placing_file
 placing_reads =
     record {
       lines = (1, model_line (codes "m")) ∷ (2, subckt_line (codes "s") []) ∷ [];

@@ -6,7 +6,7 @@ ghost use Rattle.spec_examples.specs.Examples.{weak_code, inverter_file, parity_
 ghost use Rattle.program_examples.specs.ProgramExamples.{audited_contents, demo_file, demo_model, four_layout, seventeen_cells, seventeen_lines, inverter_contents};
 ghost use Rattle.netlist_spec.specs.Netlist.{cover_inputs};
 ghost use Rattle.netlist_spec.specs.ReadFaults.{too_many, unknown_statement};
-ghost use Rattle.netlist_spec.specs.SoundFaults.{loop, reserved};
+ghost use Rattle.netlist_spec.specs.SoundFaults.{bad_port, loop, no_such_model, reserved};
 ghost use Rattle.program_spec.specs.Commands.{audit, code, command_of, flat, is_cycle, is_demo_size, sim};
 ghost use Rattle.program_spec.specs.Verdict.{IsAccepted, IsDoneText, IsFoundText, IsVerdict};
 ghost use Rattle.guard_spec.specs.Codes.{detect, hamming_code};
@@ -88,6 +88,12 @@ pub fn small_netlists_are_audited()
     ensures refused { IsVerdict (audit (codes "placing.blif")) audited_contents (refuses (out_of_order (has_subckt 2))) }
 {}
 
+/// The verdicts of `flat` on a source that has a meaning, and on one that places a model that isn't there.
+pub fn small_sources_pass_or_are_refused()
+    ensures passes { IsVerdict (flat (codes "inv.blif")) inverter_contents passes }
+    ensures refused { IsVerdict (flat (codes "placing.blif")) audited_contents (refuses (unsound (no_such_model (codes "s")))) }
+{}
+
 /// The line of each kind of answer.
 pub fn small_answers_are_told()
     ensures done { answer_line done ≡ None }
@@ -99,6 +105,7 @@ pub fn small_answers_are_told()
     ensures count { answer_line (refused (unreadable (too_many 2 cover_inputs))) ≡ Some (codes "impeccable: B7 line 2 too many cover\n") }
     ensures distance { answer_line (refused (too_small 2 3)) ≡ Some (codes "impeccable: S5 distance 2 below 3\n") }
     ensures reserved { answer_line (refused (unsound (reserved (codes "a\\")))) ≡ Some (codes "impeccable: E10 reserved a\\x5c\n") }
+    ensures port { answer_line (refused (unsound (bad_port (codes "s") (codes "q\\")))) ≡ Some (codes "impeccable: E3 bad port s q\\x5c\n") }
 {}
 
 /// The size of the guard of the demo design for n = 1.

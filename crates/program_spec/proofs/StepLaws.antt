@@ -3,19 +3,22 @@ use Rattle.std.proofs.Common.{◌≡◌, refl, sym, ◌∙◌, ap, subst, ℕ, L
 use Rattle.std.specs.Prelude.{IsSomeAnd}
 use Rattle.netlist_spec.specs.Netlist.{Model, File}
 use Rattle.netlist_spec.specs.Models.{main_model, data_inputs}
+use Rattle.netlist_spec.specs.Covers.{Library, empty_library}
 use Rattle.netlist_spec.specs.ReadFaults.{ReadFault, read_fault}
 use Rattle.netlist_spec.specs.Ordered.{order_fault, cell_nets}
 use Rattle.netlist_spec.specs.Runs.{Fault}
 use Rattle.netlist_spec.specs.SourceRun.{Stream}
 use Rattle.netlist_spec.proofs.OneReading.{one_reading}
 use Rattle.netlist_spec.proofs.NoFault.{reads_no_fault}
+use Rattle.netlist_spec.proofs.SoundHasNoFault.{sound_no_fault}
+use Rattle.refusal_laws.proofs.OneRefusal.{one_refusal as one_fault}
 use Rattle.guard_spec.specs.SettingsFile.{settings_of_bytes}
 use Rattle.stimulus_spec.specs.Stimulus.{stimulus_of, script_of}
 use Rattle.program_spec.specs.Commands.{Command, flat, code, sim, audit}
 use Rattle.program_spec.specs.Printed.{IsIndependentText, IsFindingText}
-use Rattle.program_spec.specs.Refusals.{Refusal, unreadable, bad_settings, out_of_order, bad_stimulus, bad_script_line}
+use Rattle.program_spec.specs.Refusals.{Refusal, unreadable, bad_settings, unsound, out_of_order, bad_stimulus, bad_script_line}
 use Rattle.program_spec.specs.Walk.{Contents, Verdict, refused, passes, IsTest, HasTests, Walk, end}
-use Rattle.program_spec.specs.Steps.{IsToldOf, gives, reading, readiness, main_of, order_of, script_in, stimulus_in}
+use Rattle.program_spec.specs.Steps.{IsToldOf, gives, reading, soundness, main_of, order_of, script_in, stimulus_in}
 use Rattle.program_spec.specs.Verdict.{IsTextOfFile, load_ordered, run_walk, walk_of, IsVerdict, IsDoneText, IsFoundText}
 use Rattle.program_spec.proofs.FindingLaws.{nothing_found}
 use Rattle.program_spec.proofs.WalkLaws.{one_verdict}
@@ -58,8 +61,13 @@ reading_test bytes =
       never_both = λ a r p q. none_told ReadFault (read_fault bytes) unreadable r (reads_no_fault bytes a p) q;
     }
 
-pub readiness_test : (file : File) → IsTest (Unit {0}) (readiness file)
-readiness_test file = record { one_found = λ a b p q. refl; one_refused = λ r s p q. p.1 ∙ sym q.1; never_both = λ a r p q. q.0 p }
+pub soundness_test : (file : File) (library : Library) → IsTest (Unit {0}) (soundness file library)
+soundness_test file library =
+    record {
+      one_found = λ a b p q. refl;
+      one_refused = λ r s (f, p, a) (g, q, b). a ∙ (ap unsound (one_fault file library f g p q) ∙ sym b);
+      never_both = λ a r p (f, q, b). sound_no_fault file library p f q.found;
+    }
 
 pub order_test : (file : File) → IsTest (Unit {0}) (order_of file)
 order_test file =
@@ -90,7 +98,7 @@ ordered_tests : (netlist : List ℕ) (next : File → Model → Walk) → ((file
 ordered_tests netlist next rest = λ bytes short. (reading_test bytes, λ file reads. (order_test file, λ ordered is. (main_test file, λ m main. rest file m)))
 
 pub has_tests : (command : Command) → HasTests (walk_of command)
-has_tests (flat netlist) = λ bytes short. (reading_test bytes, λ file reads. (readiness_test file, λ ready is. tt))
+has_tests (flat netlist) = λ bytes short. (reading_test bytes, λ file reads. (soundness_test file empty_library, λ sound is. tt))
 has_tests (code settings) = λ text short. (gives_test _ _ (settings_of_bytes text) bad_settings, λ s is. tt)
 has_tests (sim netlist stimulus script) =
     ordered_tests netlist (λ file m. run_walk m stimulus script)

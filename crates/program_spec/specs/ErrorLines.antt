@@ -7,7 +7,7 @@ use Rattle.netlist_spec.specs.SoundFaults.{SoundFault, twice, no_such_model, bad
 use Rattle.guard_spec.specs.Words.{LayoutFault, no_such_net, in_two_words, not_in_a_word}
 use Rattle.netlist_spec.specs.Ordered.{OrderFault, unordered, has_subckt}
 use Rattle.stimulus_spec.specs.Stimulus.{ScriptFault, bad_script, no_such_cell, more_than_sixteen}
-use Rattle.program_spec.specs.Refusals.{Refusal, file_too_long, unreadable, bad_settings, too_small, unsound, bad_layout, guard_too_large, out_of_order, bad_stimulus, bad_script_line, not_yet}
+use Rattle.program_spec.specs.Refusals.{Refusal, file_too_long, unreadable, bad_settings, too_small, unsound, bad_layout, guard_too_large, out_of_order, bad_stimulus, bad_script_line}
 use Rattle.netlist_spec.specs.Escapes.{escaped, quantity_word}
 
 -- `B2 line 3 bad row`
@@ -72,7 +72,6 @@ refusal_text guard_too_large = codes "G1 guard too large"
 refusal_text (out_of_order fault) = order_fault_text fault
 refusal_text (bad_stimulus line) = at_line (codes "M3") line (codes "bad stimulus")
 refusal_text (bad_script_line fault) = script_fault_text fault
-refusal_text not_yet = codes "N1 not yet"
 
 abbrev pub usage_text : List ℕ
 usage_text = codes "usage: flat NETLIST, code SETTINGS, guard SETTINGS NETLIST, sim NETLIST STIMULUS SCRIPT, audit NETLIST, campaign SETTINGS NETLIST STIMULUS CYCLE, demo N"

@@ -18,5 +18,3 @@ pub data Refusal : Type 0 where
   out_of_order : (fault : OrderFault) → Refusal
   bad_stimulus : (line : ℕ) → Refusal
   bad_script_line : (fault : ScriptFault) → Refusal
-  -- until sub-models, clocks and wide covers are elaborated: the netlist isn't ready for `flat`
-  not_yet : Refusal

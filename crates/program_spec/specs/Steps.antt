@@ -10,13 +10,12 @@ use Rattle.netlist_spec.specs.SoundFaults.{SoundFault, IsRefusedWith}
 use Rattle.netlist_spec.specs.Ordered.{order_fault, cell_nets}
 use Rattle.netlist_spec.specs.SourceRun.{Stream}
 use Rattle.netlist_spec.specs.Runs.{Fault}
-use Rattle.netlist_spec.specs.FlatReady.{IsFlatReady}
 use Rattle.guard_spec.specs.Codes.{needed_distance, IsDistance}
 use Rattle.guard_spec.specs.Words.{Settings, Layout, IsLayout, layout_fault}
 use Rattle.guard_spec.specs.Plain.{IsPlain}
 use Rattle.guard_spec.specs.SettingsFile.{settings_of_bytes}
 use Rattle.stimulus_spec.specs.Stimulus.{stimulus_of, script_of}
-use Rattle.program_spec.specs.Refusals.{Refusal, not_yet, unreadable, bad_settings, too_small, unsound, bad_layout, guard_too_large, out_of_order, bad_stimulus, bad_script_line}
+use Rattle.program_spec.specs.Refusals.{Refusal, unreadable, bad_settings, too_small, unsound, bad_layout, guard_too_large, out_of_order, bad_stimulus, bad_script_line}
 use Rattle.program_spec.specs.Walk.{Test}
 
 -- A test that finds nothing passes or refuses.
@@ -41,14 +40,6 @@ reading bytes =
     record {
       Finds = λ file. Reads bytes file;
       Refuses = λ refusal. IsToldOf _ (read_fault bytes) unreadable refusal;
-    }
-
--- Until sub-models, clocks and wide covers are elaborated, a netlist that isn't ready for that is refused.
-abbrev pub readiness : File → Test Nothing
-readiness file =
-    record {
-      Finds = λ found. IsFlatReady file;
-      Refuses = λ refusal. (IsFlatReady file → ⊥) × (refusal ≡ not_yet);
     }
 
 -- The file is sound with the library, or refused.

@@ -14,7 +14,7 @@ use Rattle.guard_spec.specs.SettingsFile.{settings_of_bytes}
 use Rattle.program_spec.specs.Printed.{IsReport, IsRunText, IsIndependentText, IsFindingText}
 use Rattle.program_spec.specs.Commands.{Command, flat, code, sim, audit, netlist_limit, other_limit}
 use Rattle.program_spec.specs.Walk.{Contents, Verdict, passes, Walk, end, load, test, ComesTo}
-use Rattle.program_spec.specs.Steps.{reading, readiness, soundness, settings_in, strength, main_of, words_of, smallness, order_of, stimulus_in, script_in}
+use Rattle.program_spec.specs.Steps.{reading, soundness, settings_in, strength, main_of, words_of, smallness, order_of, stimulus_in, script_in}
 
 -- ---- steps that several commands share
 
@@ -43,7 +43,7 @@ run_walk m stimulus script =
     load script other_limit (λ lines. test _ (script_in m lines) (λ faults. end))))
 
 abbrev pub walk_of : Command → Walk
-walk_of (flat netlist) = load_netlist netlist (λ file. test _ (readiness file) (λ ready. end))
+walk_of (flat netlist) = load_netlist netlist (λ file. test _ (soundness file empty_library) (λ sound. end))
 walk_of (code settings) = load settings other_limit (λ text. test _ (settings_in text) (λ s. end))
 walk_of (sim netlist stimulus script) = load_ordered netlist (λ file m. run_walk m stimulus script)
 walk_of (audit netlist) = load_ordered netlist (λ file m. end)

@@ -1,8 +1,14 @@
 -- The outcome is that of the command that was asked for.
 use Rattle.impeccable.specs.Ended.{answer_of}
-use Rattle.impeccable.proofs.OutcomeLemmas.{asked-completes, asked-finds, asked-refuses, unasked}
+use Rattle.impeccable.proofs.OutcomeLemmas.{asked-answers, asked-completes, asked-finds, asked-refuses, unasked}
 use Rattle.impeccable.proofs.program.run.Goals as goal
 use Rattle.impeccable.proofs.program.run.Goals.{in-Some, in-None}
+
+pub returns-clause-answers : goal.returns-clause-answers
+returns-clause-answers g c = elim c.match-read_command.branch [
+  | in-Some w ↦ rw (w.files-is, w.out-is) (asked-answers _ _ (g.F.Files.seen c.args.files.now) (g.F.Files.seen w.perform-ended.new.files) (g.O.Sink.seen c.args.out.now) (g.O.Sink.seen w.perform-ended.new.out) (g.E.Sink.seen c.args.err.now) (g.E.Sink.seen c.tell.new.err) (answer_of w.perform-ended.result) c.outcome_of.result (rw w.in-Some.is at c.read_command.ensures) (rw w.ended-is at c.outcome_of.ensures) w.perform-ended.ensures.answers w.perform-ended.ensures.own (rw w.ended-is at c.tell.ensures))
+  | in-None w ↦ unasked _ _ (rw w.in-None.is at c.read_command.ensures)
+]
 
 pub returns-clause-complete : goal.returns-clause-complete
 returns-clause-complete g c = elim c.match-read_command.branch [
