@@ -7,5 +7,6 @@ pub mod NodeLemmas
 pub mod OnceLemmas
 pub mod PriceLemmas
 pub mod SizeLemmas
+pub mod SourceLemmas
 pub mod SumLemmas
 pub mod WalkLemmas
