@@ -1,0 +1,11 @@
+pub mod Lists
+pub mod Pushed
+pub mod Rising
+pub mod Between
+pub mod Counts
+pub mod Mapped
+pub mod NamedGuard
+pub mod Labelled
+pub mod Finished
+pub mod Arguments
+pub mod Steps

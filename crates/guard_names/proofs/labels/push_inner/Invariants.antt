@@ -1,0 +1,7 @@
+use Rattle.std.proofs.Common.{◌≡◌, ◌-◌, ◌++◌, map}
+use Rattle.std.specs.List.{range_with_len}
+use Rattle.named_netlist.specs.declared.label.Label.TheVariants.{Inner}
+use Rattle.guard_names.proofs.labels.push_inner.Given as goal
+
+abbrev pub invariant-loop-i : goal.invariant-loop-i
+invariant-loop-i l = l.labels.items ≡ l.initial.labels.items ++ map (λ i. Inner i) (range_with_len l.first (l.i - l.first))
