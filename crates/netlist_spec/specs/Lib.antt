@@ -18,7 +18,6 @@ pub mod Values
 pub mod Runs
 pub mod Gates
 pub mod Text
-pub mod FlatReady
 pub mod Size
 pub mod WrittenForm
 pub mod Flat

@@ -11,7 +11,6 @@ pub mod SmallCycles
 pub mod SmallFlat
 pub mod SmallMachine
 pub mod SmallPlacement
-pub mod SmallReady
 pub mod SmallSettings
 pub mod TwoModels
 pub mod Tests

@@ -32,7 +32,6 @@ ghost use Rattle.netlist_spec.specs.Elaborated.{IsElaborated, IsMachineOf};
 ghost use Rattle.netlist_spec.specs.Written.{IsNamed, file_of};
 ghost use Rattle.netlist_spec.specs.Flat.{IsFlat};
 ghost use Rattle.netlist_spec.specs.WrittenText.{IsFlatText};
-ghost use Rattle.netlist_spec.specs.FlatReady.{IsFlatReady};
 ghost use Rattle.spec_examples.specs.SourceExamples.{placing_file};
 
 pub use guards::{
@@ -243,8 +242,7 @@ pub fn small_models_are_refused()
     ensures reserved { IsRefusedWith guard_is_named empty_library (reserved (codes "guard:x")) }
 {}
 
-/// A source that is ready to be flattened, and one that places a model.
+/// A source that places a model is sound.
 pub fn small_sources_are_taken()
-    ensures ready { IsFlatReady inverter_file }
     ensures sound { IsSound placing_file empty_library }
 {}
