@@ -244,5 +244,5 @@ pub fn small_models_are_refused()
 
 /// A source that places a model is sound.
 pub fn small_sources_are_taken()
-    ensures sound { IsSound placing_file empty_library }
+    ensures { IsSound placing_file empty_library }
 {}

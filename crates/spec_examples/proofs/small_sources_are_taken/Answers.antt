@@ -1,5 +1,5 @@
 use Rattle.spec_examples.proofs.SmallPlacement.{placing_is_sound}
 use Rattle.spec_examples.proofs.small_sources_are_taken.Goals as goal
 
-pub returns-clause-sound : goal.returns-clause-sound
-returns-clause-sound c = placing_is_sound
+pub returns : goal.returns
+returns c = placing_is_sound
