@@ -62,3 +62,30 @@ module _ (latches outputs : List Name) (s : Settings) where
             state = are_words (data_places s.code) latches d s.state_words l.state f state_parts;
             output = are_words (data_places s.code) outputs e s.output_words l.output g output_parts;
           }
+
+-- What is owed where the settings have no fault.
+pub record IsSettled (latches outputs : List Name) (s : Settings) (l : Layout) : Type 0 where
+  pub is_layout : IsLayoutOver latches outputs s l
+  pub state : IsPartition (length latches) (data_places s.code) l.state
+  pub output : IsPartition (length outputs) (data_places s.code) l.output
+  pub no_fault : layout_fault_over latches outputs s ≡ None
+
+-- words of as many places as the code has rows
+pub found_by : (nets : List Name) (s : Settings) (listed : Option (List (List Name))) (words : Words) (k : ℕ) → k ≡ data_places s.code → AreFound k nets listed words → AreFound (data_places s.code) nets listed words
+found_by nets s listed words k is f = subst (λ (n : ℕ). AreFound n nets listed words) is f
+
+pub settled : (latches outputs : List Name) (s : Settings) (l : Layout) → are_distinct latches ≡ true → are_distinct outputs ≡ true → (k : ℕ) → k ≡ data_places s.code
+    → AreFound k latches s.state_words l.state → AreFound k outputs s.output_words l.output → ComesOnce latches outputs l → IsSettings s → (same : Settings) → s ≡ same → IsSettled latches outputs same l
+settled latches outputs s l d e k is f g once valid same is_same =
+    let a = found_by latches s s.state_words l.state k is f in
+    let b = found_by outputs s s.output_words l.output k is g in
+    subst (λ (x : Settings). IsSettled latches outputs x l) is_same (record {
+      is_layout = layout_is latches outputs s l d e a b once valid;
+      state = state_parts latches outputs s l d e a b once valid;
+      output = output_parts latches outputs s l d e a b once valid;
+      no_fault = none_told latches outputs s l d e a b once valid;
+    })
+
+-- the same over names that are the same
+pub over_names : (P : List Name → List Name → Type 0) {a b c d : List Name} → a ≡ b → c ≡ d → P a c → P b d
+over_names P {b = b} {c = c} same also is = subst (λ (ns : List Name). P b ns) also (subst (λ (ns : List Name). P ns c) same is)

@@ -6,3 +6,4 @@ pub mod PartitionLemmas
 pub mod FaultLemmas
 pub mod InitLemmas
 pub mod LayoutLemmas
+pub mod NetLemmas

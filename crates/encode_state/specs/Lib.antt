@@ -2,3 +2,4 @@ pub mod Types
 pub mod Faults
 pub mod Places
 pub mod Listed
+pub mod Nets

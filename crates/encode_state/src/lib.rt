@@ -6,10 +6,12 @@ mod fault;
 mod inits;
 mod layouts;
 mod named;
+mod nets;
 mod places;
 mod taken;
 pub mod types;
 
 pub use fault::LayoutFault;
 pub use inits::initial;
-pub use layouts::layout;
+pub use layouts::{layout, layout_of};
+pub use nets::{latch_outputs, output_nets};

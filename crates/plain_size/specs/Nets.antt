@@ -4,11 +4,7 @@ use Rattle.imp_text.specs.declared.names.NameId.{NameId}
 use Rattle.blif_read.specs.declared.file.Statement.{Statement}
 use Rattle.blif_read.specs.declared.file.Statement.TheVariants.{Latch}
 
--- the net that a latch stores, and the one that it shows
+-- the net that a latch stores
 abbrev pub stored_id : Statement → Option NameId
 stored_id (Latch d q clocking init) = Some d
 stored_id _ = None
-
-abbrev pub shown_id : Statement → Option NameId
-shown_id (Latch d q clocking init) = Some q
-shown_id _ = None

@@ -1,9 +1,9 @@
-// The nets of latches and outputs.
+// The nets of latches.
 ghost use Rattle.std.specs.Prelude.{◌≡◌, map, All, IfOk};
-ghost use Rattle.netlist_spec.specs.Models.{latch_inputs as latch_inputs_of, latch_outputs as latch_outputs_of, output_nets as output_nets_of};
+ghost use Rattle.netlist_spec.specs.Models.{latch_inputs as latch_inputs_of};
 ghost use Rattle.blif_read.specs.Ids.{HasIds, IsIdOf};
 ghost use Rattle.blif_read.specs.View.{model_of, name_at};
-ghost use Rattle.plain_size.specs.Nets.{shown_id, stored_id};
+ghost use Rattle.plain_size.specs.Nets.{stored_id};
 
 use blif_read::{Model, NameId, Statement};
 use std::alloc::{AllocError, Global};
@@ -23,21 +23,6 @@ pub(crate) fn latch_inputs(alloc: Global, m: &Model) -> Result<Vec<NameId>, Allo
     Ok(ids)
 }
 
-/// The nets that the latches of a model show, in the order of their lines.
-pub(crate) fn latch_outputs(alloc: Global, m: &Model) -> Result<Vec<NameId>, AllocError>
-    requires { HasIds m.now }
-    ensures names { IfOk result (λ ids. map (name_at m.now.names) ids.items ≡ latch_outputs_of (model_of m.now)) }
-    ensures within { IfOk result (λ ids. All (IsIdOf m.now.names) ids.items) }
-{
-    let mut ids = Vec::new(alloc);
-    for s in &m.statements {
-        if let Some(id) = shown(&s.what) {
-            ids.push(id)?;
-        }
-    }
-    Ok(ids)
-}
-
 // The net that a latch stores.
 fn stored(s: &Statement) -> Option<NameId>
     ensures { result ≡ stored_id s.now }
@@ -46,27 +31,4 @@ fn stored(s: &Statement) -> Option<NameId>
         Statement::Latch { d, .. } => Some(*d),
         _ => None,
     }
-}
-
-// The net that a latch shows.
-fn shown(s: &Statement) -> Option<NameId>
-    ensures { result ≡ shown_id s.now }
-{
-    match s {
-        Statement::Latch { q, .. } => Some(*q),
-        _ => None,
-    }
-}
-
-/// The output nets of a model, in their order.
-pub(crate) fn output_nets(alloc: Global, m: &Model) -> Result<Vec<NameId>, AllocError>
-    requires { HasIds m.now }
-    ensures names { IfOk result (λ ids. map (name_at m.now.names) ids.items ≡ output_nets_of (model_of m.now)) }
-    ensures within { IfOk result (λ ids. All (IsIdOf m.now.names) ids.items) }
-{
-    let mut ids = Vec::new(alloc);
-    for port in &m.outputs {
-        ids.push(port.name)?;
-    }
-    Ok(ids)
 }

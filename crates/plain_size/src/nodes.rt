@@ -9,8 +9,8 @@ ghost use Rattle.blif_read.specs.Ids.{HasIds, IsIdOf};
 ghost use Rattle.blif_read.specs.View.{model_of, name_at, statement_of};
 ghost use Rattle.plain_size.specs.Nodes.{AreNodes, ArePointed, HasRows, lead_of, combines_in, driven_by, numbers, shown_by};
 
-use crate::nets::latch_outputs;
 use blif_read::{Model, NameId, Statement};
+use encode_state::latch_outputs;
 use source_nets::ModelSurvey;
 use std::alloc::{AllocError, Global};
 

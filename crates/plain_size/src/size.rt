@@ -17,11 +17,12 @@ ghost use Rattle.plain_size.specs.Sizes.{AreCostsOf, AreMainCosts, IsMainPlain, 
 ghost use Rattle.plain_size.specs.Sums.{IsWholeSum};
 
 use crate::cones::{Cones, source_cones};
-use crate::nets::{latch_inputs, output_nets};
+use crate::nets::latch_inputs;
 use crate::prices::{node_costs, rails_cost};
 use crate::sums::{add_outputs, add_state};
 use crate::walk::{LIMIT, Walk};
 use blif_read::{File, Model};
+use encode_state::output_nets;
 use encode_state::types::Layout;
 use settings::{Mode, Settings};
 use size_laws::{partial_sizes_add_up, partial_sizes_stay_below, sources_have_one_size};

@@ -2,7 +2,7 @@ use Rattle.std.proofs.Common.{◌∙◌, ap, get_or}
 use Rattle.std.proofs.lemmas.List.{get_or_default}
 use Rattle.imp_text.specs.declared.names.NameId.{NameId}
 use Rattle.plain_size.specs.Nodes.{node_at}
-use Rattle.plain_size.proofs.NetLemmas.{found_some, found_none}
+use Rattle.encode_state.proofs.NetLemmas.{found_some, found_none}
 use Rattle.plain_size.proofs.cones.ends.Goals as goal
 use Rattle.plain_size.proofs.cones.ends.Goals.{in-Some+in_ok-push, in_default}
 

@@ -6,7 +6,8 @@ use Rattle.blif_read.specs.declared.file.Located.{Located}
 use Rattle.blif_read.specs.Ids.{IsIdOf}
 use Rattle.blif_read.specs.View.{name_at}
 use Rattle.plain_size.specs.Nets.{stored_id}
-use Rattle.plain_size.proofs.NetLemmas.{found_some, found_none, stored_names, stored_within}
+use Rattle.encode_state.proofs.NetLemmas.{found_some, found_none}
+use Rattle.plain_size.proofs.NetLemmas.{stored_names, stored_within}
 use Rattle.plain_size.proofs.nets.latch_inputs.Goals as goal
 use Rattle.plain_size.proofs.nets.latch_inputs.Goals.{in-Some+in_ok-push, in_default}
 

@@ -3,7 +3,7 @@ use Rattle.std.proofs.Common.{◌≡◌, All, map, take}
 use Rattle.blif_read.specs.Ids.{IsIdOf}
 use Rattle.blif_read.specs.View.{port_of, name_at}
 use Rattle.netlist_spec.specs.Placed.{port_names}
-use Rattle.plain_size.proofs.nets.output_nets.Given as goal
+use Rattle.encode_state.proofs.nets.output_nets.Given as goal
 
 abbrev pub invariant-loop-port : goal.invariant-loop-port
 invariant-loop-port l = record {

@@ -5,10 +5,10 @@ use Rattle.imp_text.specs.declared.names.NameId.{NameId}
 use Rattle.blif_read.specs.declared.file.Located.{Located}
 use Rattle.blif_read.specs.Ids.{IsIdOf}
 use Rattle.blif_read.specs.View.{name_at}
-use Rattle.plain_size.specs.Nets.{shown_id}
-use Rattle.plain_size.proofs.NetLemmas.{found_some, found_none, shown_names, shown_within}
-use Rattle.plain_size.proofs.nets.latch_outputs.Goals as goal
-use Rattle.plain_size.proofs.nets.latch_outputs.Goals.{in-Some+in_ok-push, in_default}
+use Rattle.encode_state.specs.Nets.{shown_id}
+use Rattle.encode_state.proofs.NetLemmas.{found_some, found_none, shown_names, shown_within}
+use Rattle.encode_state.proofs.nets.latch_outputs.Goals as goal
+use Rattle.encode_state.proofs.nets.latch_outputs.Goals.{in-Some+in_ok-push, in_default}
 
 pub returns : goal.returns
 returns c =

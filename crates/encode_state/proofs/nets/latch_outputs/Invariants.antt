@@ -2,8 +2,8 @@
 use Rattle.std.proofs.Common.{◌≡◌, take}
 use Rattle.std.specs.Prelude.{filter_map}
 use Rattle.blif_read.specs.declared.file.Located.{Located}
-use Rattle.plain_size.specs.Nets.{shown_id}
-use Rattle.plain_size.proofs.nets.latch_outputs.Given as goal
+use Rattle.encode_state.specs.Nets.{shown_id}
+use Rattle.encode_state.proofs.nets.latch_outputs.Given as goal
 
 abbrev pub invariant-loop-s : goal.invariant-loop-s
 invariant-loop-s l = l.ids.items ≡ filter_map (λ (s : Located). shown_id s.what) (take l.s-index l.m.statements.items)
