@@ -5,6 +5,5 @@ mod named;
 mod names;
 mod source;
 
-pub use named::named_source;
-pub use source::{checked_machine, elaborate, main_model};
+pub use source::{elaborate, elaborate_checked};
 pub use source_check::ElabFault;

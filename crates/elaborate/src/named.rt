@@ -12,8 +12,12 @@ use gate_net::Machine;
 use line_order::{data_inputs, first_clocking};
 use std::alloc::{AllocError, Global};
 
-/// The machine with the names of its main model, which are moved.
-pub fn named_source(alloc: Global, m: Model, machine: Machine) -> Result<Elaborated, AllocError>
+// The machine with the names of its main model, which are moved.
+pub(crate) fn named_source(
+    alloc: Global,
+    m: Model,
+    machine: Machine,
+) -> Result<Elaborated, AllocError>
     requires ids { HasIds m }
     requires can { CanBeNamed (model_of m) machine }
     ensures names { IfOk result (λ e. HasNamesOf (model_of m) e) }

@@ -14,6 +14,7 @@ ghost use Rattle.blif_read.specs.View.{file_of, model_of};
 ghost use Rattle.sbox_table.specs.declared.table.NamedTable.{NamedTable as ReadTable};
 ghost use Rattle.linear_layer.specs.declared.layer.NamedLinear.{NamedLinear as ReadLinear};
 ghost use Rattle.source_nets.specs.Survey.{library_of};
+ghost use Rattle.source_check.specs.Checked.{IsChecked};
 ghost use Rattle.source_check.specs.Faults.{fault_of, HasNoRefusal, IsOnlyRefusal};
 ghost use Rattle.elaborate.specs.Named.{IsElaboratedByNames};
 
@@ -23,11 +24,11 @@ use elaborated::Elaborated;
 use gate_net::Machine;
 use linear_layer::NamedLinear;
 use sbox_table::NamedTable;
-use source_check::{ElabFault, check};
+use source_check::{Checked, ElabFault, check};
 use source_laws::{fitting_valuations_agree, numbered_sources_are_elaborated, sound_sources_step};
 use source_machine::machine_of;
 use source_nets::{Source, port_marks};
-use std::alloc::Global;
+use std::alloc::{AllocError, Global};
 
 /// The machine of gates that a file stands for with a library, with the names of its main model, or the first refusal of the
 /// file. The names of the tables are distinct, and those of the linear layers.
@@ -61,34 +62,46 @@ pub fn elaborate(
 {
     sound_sources_step();
     fitting_valuations_agree();
-    let machine = checked_machine(alloc, &file, tables, linears)?;
+    let checked = check(alloc, &file, tables, linears)?;
+    let e = elaborate_checked(alloc, file, tables, linears, &checked)?;
+    Ok(e)
+}
+
+/// The machine of a sound file as `elaborate` gives it, for a caller that has what the check of the file gave: nothing is
+/// checked again.
+pub fn elaborate_checked(
+    alloc: Global,
+    file: File,
+    tables: &[NamedTable],
+    linears: &[NamedLinear],
+    checked: &Checked,
+) -> Result<Elaborated, AllocError>
+    requires ids { All HasIds file.models.items }
+    requires is_file { IsFile (file_of file) }
+    requires sound { IsSound (file_of file) (library_of tables.now linears.now) }
+    requires checked { IsChecked (file_of file) (library_of tables.now linears.now) checked.now }
+    ensures elaborated { IfOk result (λ e. (m : SpecModel) → IsMain (file_of file) m → IsElaborated (file_of file) (library_of tables.now linears.now) m e) }
+{
+    let machine = checked_machine(alloc, &file, tables, linears, checked)?;
     let e = named_source(alloc, main_model(file), machine)?;
     Ok(e)
 }
 
-/// The machine of gates of a file that has a meaning with a library, or the first refusal of the file.
-pub fn checked_machine(
+// The machine of gates of a sound file.
+pub(crate) fn checked_machine(
     alloc: Global,
     file: &File,
     tables: &[NamedTable],
     linears: &[NamedLinear],
-) -> Result<Machine, ElabFault>
+    checked: &Checked,
+) -> Result<Machine, AllocError>
     requires ids { All HasIds file.now.models.items }
     requires is_file { IsFile (file_of file.now) }
-    requires tables { IsTrue (are_distinct (map (λ (t : ReadTable). t.name) tables.now)) }
-    requires linears { IsTrue (are_distinct (map (λ (l : ReadLinear). l.name) linears.now)) }
-    ensures sound { OnOk result (IsSound (file_of file.now) (library_of tables.now linears.now)) }
+    requires sound { IsSound (file_of file.now) (library_of tables.now linears.now) }
+    requires checked { IsChecked (file_of file.now) (library_of tables.now linears.now) checked.now }
     ensures elaborated { IfOk result (λ machine. IsElaboratedByNames (file_of file.now) (library_of tables.now linears.now) machine) }
-    ensures refused { IfErr result (λ fault. IfSome (fault_of fault) (IsRefusedWith (file_of file.now) (library_of tables.now linears.now))) }
-    ensures decided { MatchResult result
-        (λ machine. IsSound (file_of file.now) (library_of tables.now linears.now) × HasNoRefusal (file_of file.now) (library_of tables.now linears.now))
-        (λ fault. IfSome (fault_of fault) (IsOnlyRefusal (file_of file.now) (library_of tables.now linears.now))) }
-    ensures accepted { IsSound (file_of file.now) (library_of tables.now linears.now) → IsOkUnless result ElabFault.NoMemory }
-    ensures told { (fault : SoundFault) → IsRefusedWith (file_of file.now) (library_of tables.now linears.now) fault
-        → MatchResult result (λ machine. ⊥) (λ other. IfSome (fault_of other) (λ told. told ≡ fault)) }
 {
     numbered_sources_are_elaborated();
-    let checked = check(alloc, file, tables, linears)?;
     let ports = port_marks(alloc, &file.models)?;
     let source = Source {
         file,
@@ -96,12 +109,11 @@ pub fn checked_machine(
         linears,
         ports: &ports,
     };
-    let machine = machine_of(alloc, &source, &checked)?;
-    Ok(machine)
+    machine_of(alloc, &source, checked)
 }
 
-/// The main model of a file, which is moved.
-pub fn main_model(file: File) -> Model
+// The main model of a file, which is moved.
+pub(crate) fn main_model(file: File) -> Model
     requires ids { All HasIds file.models.items }
     requires is_file { IsFile (file_of file) }
     ensures main { IsMain (file_of file) (model_of result) }
