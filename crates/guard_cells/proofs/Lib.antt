@@ -1,0 +1,5 @@
+pub mod Joins
+pub mod More
+pub mod Copies
+pub mod Checks
+pub mod Alarms
