@@ -1,0 +1,11 @@
+pub mod Cells
+pub mod Order
+pub mod Numbered
+pub mod Own
+pub mod Nets
+pub mod Leaves
+pub mod Watched
+pub mod Kept
+pub mod Regions
+pub mod Costs
+pub mod Guard
