@@ -1,0 +1,11 @@
+mod Lists
+mod DataPlaces
+mod LatchRows
+mod RightCells
+mod StateWords
+mod CheckWords
+mod ShownOutputs
+mod PartitionSums
+mod WatchedWords
+mod GuardParts
+mod MadeGuards
