@@ -1,0 +1,8 @@
+//! From a source and its settings to its guard, with names, or the first refusal of the two.
+#![tactic(auto)]
+
+mod fault;
+mod source;
+
+pub use fault::GuardFault;
+pub use source::guard_source;

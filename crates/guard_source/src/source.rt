@@ -1,0 +1,100 @@
+// The guard of a source.
+ghost use Rattle.std.specs.Prelude.{◌≡◌, ℕ, ◌≤◌, List, Ok, All, IfErr, IfOk, IfSome, OnOk};
+ghost use Rattle.netlist_spec.specs.FileRules.{IsFile};
+ghost use Rattle.netlist_spec.specs.Reads.{Reads};
+ghost use Rattle.netlist_spec.specs.Runs.{IsSteady};
+ghost use Rattle.netlist_spec.specs.Sound.{IsSound};
+ghost use Rattle.netlist_spec.specs.Text.{text_of};
+ghost use Rattle.netlist_spec.specs.Written.{file_of as written_file};
+ghost use Rattle.guard_spec.specs.Codes.{IsDistance, detect, needed_distance};
+ghost use Rattle.guard_spec.specs.SettingsFile.{settings_of_bytes};
+ghost use Rattle.guard_text_spec.specs.GuardText.{IsGuardText};
+ghost use Rattle.blif_read.specs.Ids.{HasIds};
+ghost use Rattle.blif_read.specs.View.{file_of};
+ghost use Rattle.source_check.specs.Checked.{IsChecked};
+ghost use Rattle.guard_source.specs.Accepted.{IsRefusedGuard, IsSmall};
+ghost use Rattle.guard_source.specs.Faults.{refusal_of};
+ghost use Rattle.guard_source.specs.Settled.{IsSettled};
+
+use crate::GuardFault;
+use blif_read::File;
+use elaborate::elaborate_checked;
+use encode_state::layout_of;
+use encode_state::types::Layout;
+use guard_laws::machines_cost_no_more;
+use guard_names::{name_guard, steps_make_a_guard};
+use guard_net::build;
+use named_netlist::Named;
+use plain_size::size_of_checked;
+use settings::Settings;
+use size_laws::machines_have_one_size;
+use source_check::{Checked, check};
+use std::alloc::{AllocError, Global};
+
+/// The gate list of a guard of a source, with names, or the first refusal of the source with its settings. The settings are
+/// those of a guard in detection, and their code is strong enough.
+pub fn guard_source(alloc: Global, file: File, s: &Settings) -> Result<Named, GuardFault>
+    requires ids { All HasIds file.models.items }
+    requires is_file { IsFile (file_of file) }
+    requires mode { s.now.mode ≡ detect }
+    requires strong { (d : ℕ) × IsDistance s.now.code d × (needed_distance s.now.mode s.now.bound ≤ d) }
+    ensures small { OnOk result (IsSmall (file_of file) s.now) }
+    // The text that it is written as is one of a guard of the source by these settings.
+    ensures guard { IfOk result (λ n. (settings netlist : List ℕ)
+        → settings_of_bytes settings ≡ Ok s.now → Reads netlist (file_of file)
+        → IsGuardText settings netlist (text_of n.unknown_inits (written_file n)) (λ t. IsSteady t)) }
+    ensures refused { IfErr result (λ fault. IfSome (refusal_of fault) (IsRefusedGuard (file_of file) s.now)) }
+{
+    let checked = check(alloc, &file, &s.tables, &s.linears)?;
+    let l = settle_words(alloc, &file, &checked, s)?;
+    let n = make(alloc, file, &checked, s, &l)?;
+    Ok(n)
+}
+
+// The words that the settings ask for, where they fit and the plain size of the guard is at most 1,000,000.
+fn settle_words(
+    alloc: Global,
+    file: &File,
+    checked: &Checked,
+    s: &Settings,
+) -> Result<Layout, GuardFault>
+    requires ids { All HasIds file.now.models.items }
+    requires is_file { IsFile (file_of file.now) }
+    requires sound { IsSound (file_of file.now) s.now.library }
+    requires checked { IsChecked (file_of file.now) s.now.library checked.now }
+    ensures settled { IfOk result (λ l. IsSettled (file_of file.now) s.now l) }
+    ensures refused { IfErr result (λ fault. IfSome (refusal_of fault) (IsRefusedGuard (file_of file.now) s.now)) }
+{
+    let l = layout_of(alloc, &file.models[0], s)?;
+    match size_of_checked(alloc, file, checked, s, &l)? {
+        Some(_) => Ok(l),
+        None => Err(GuardFault::TooLarge),
+    }
+}
+
+// The gate list of the guard, with names.
+fn make(
+    alloc: Global,
+    file: File,
+    checked: &Checked,
+    s: &Settings,
+    l: &Layout,
+) -> Result<Named, AllocError>
+    requires ids { All HasIds file.models.items }
+    requires is_file { IsFile (file_of file) }
+    requires mode { s.now.mode ≡ detect }
+    requires strong { (d : ℕ) × IsDistance s.now.code d × (needed_distance s.now.mode s.now.bound ≤ d) }
+    requires checked { IsChecked (file_of file) s.now.library checked.now }
+    requires settled { IsSettled (file_of file) s.now l.now }
+    ensures { IfOk result (λ n. (settings netlist : List ℕ)
+        → settings_of_bytes settings ≡ Ok s.now → Reads netlist (file_of file)
+        → IsGuardText settings netlist (text_of n.unknown_inits (written_file n)) (λ t. IsSteady t)) }
+{
+    machines_have_one_size();
+    machines_cost_no_more();
+    steps_make_a_guard();
+    let e = elaborate_checked(alloc, file, &s.tables, &s.linears, checked)?;
+    let g = build(alloc, &e.machine, l, &s.code, s.bound)?;
+    let n = name_guard(alloc, g, e, l, &s.code)?;
+    Ok(n)
+}
