@@ -7,7 +7,7 @@ ghost use Rattle.program_examples.specs.ProgramExamples.{audited_contents, demo_
 ghost use Rattle.netlist_spec.specs.Netlist.{cover_inputs};
 ghost use Rattle.netlist_spec.specs.ReadFaults.{too_many, unknown_statement};
 ghost use Rattle.netlist_spec.specs.SoundFaults.{bad_port, loop, no_such_model, reserved};
-ghost use Rattle.program_spec.specs.Commands.{audit, code, command_of, flat, is_cycle, is_demo_size, sim};
+ghost use Rattle.program_spec.specs.Commands.{audit, code, command_of, flat, guard, is_cycle, is_demo_size, sim};
 ghost use Rattle.program_spec.specs.Verdict.{IsAccepted, IsDoneText, IsFoundText, IsVerdict};
 ghost use Rattle.guard_spec.specs.Codes.{detect, hamming_code};
 ghost use Rattle.program_spec.specs.Demo.{demo_settings};
@@ -15,10 +15,11 @@ ghost use Rattle.netlist_spec.specs.Lines.{plain_lines};
 ghost use Rattle.stimulus_spec.specs.Stimulus.{bad_script, more_than_sixteen, no_such_cell, script_of, stimulus_of};
 ghost use Rattle.program_spec.specs.Printed.{IsFindingText, IsIndependentText, IsReport, IsRunText, report_text, run_text};
 ghost use Rattle.program_spec.specs.ErrorLines.{answer_line, done, error_line, found, no_memory, read_fault as failed_load, refusal_text, refused, usage, write_fault};
-ghost use Rattle.program_spec.specs.Refusals.{out_of_order, too_small, unreadable, unsound};
+ghost use Rattle.program_spec.specs.Refusals.{bad_layout, guard_too_large, not_yet_correct, out_of_order, too_small, unreadable, unsound};
 ghost use Rattle.program_spec.specs.Walk.{passes, refused as refuses};
 ghost use Rattle.netlist_spec.specs.Ordered.{has_subckt};
 ghost use Rattle.guard_spec.specs.Plain.{IsPlain};
+ghost use Rattle.guard_spec.specs.Words.{in_two_words, no_such_net, not_in_a_word};
 
 /// Lines of stimulus and script aren't joined.
 pub fn small_lines_are_plain()
@@ -30,9 +31,10 @@ pub fn small_lines_are_plain()
     ensures form_first { script_of (codes "a" ∷ []) (codes "1 zz 2\n") ≡ Err (bad_script 1) }
 {}
 
-/// A small source with a small code is accepted.
+/// A small source with a small code is accepted, and `guard` passes.
 pub fn small_pair_is_accepted()
-    ensures { IsAccepted inverter_contents (codes "s.toml") (codes "inv.blif") }
+    ensures accepted { IsAccepted inverter_contents (codes "s.toml") (codes "inv.blif") }
+    ensures passes { IsVerdict (guard (codes "s.toml") (codes "inv.blif")) inverter_contents passes }
 {}
 
 /// Stimulus and script files, and their first faults.
@@ -60,11 +62,13 @@ pub fn small_lines_are_printed()
 pub fn small_words_are_commands()
     ensures flat { command_of (codes "flat" ∷ codes "a" ∷ []) ≡ Some (flat (codes "a")) }
     ensures code { command_of (codes "code" ∷ codes "a" ∷ []) ≡ Some (code (codes "a")) }
+    ensures guard { command_of (codes "guard" ∷ codes "a" ∷ codes "b" ∷ []) ≡ Some (guard (codes "a") (codes "b")) }
     ensures sim { command_of (codes "sim" ∷ codes "a" ∷ codes "b" ∷ codes "c" ∷ []) ≡ Some (sim (codes "a") (codes "b") (codes "c")) }
     ensures audit { command_of (codes "audit" ∷ codes "a" ∷ []) ≡ Some (audit (codes "a")) }
     ensures none { command_of [] ≡ None }
     ensures few { command_of (codes "flat" ∷ []) ≡ None }
     ensures many { command_of (codes "flat" ∷ codes "a" ∷ codes "b" ∷ []) ≡ None }
+    ensures few_of_two { command_of (codes "guard" ∷ codes "a" ∷ []) ≡ None }
     ensures few_of_three { command_of (codes "sim" ∷ codes "a" ∷ codes "b" ∷ []) ≡ None }
     ensures other { command_of (codes "flatten" ∷ codes "a" ∷ []) ≡ None }
     ensures cycle { (is_cycle (codes "x") ≡ false) × (is_cycle (codes "000042") ≡ true) × (is_cycle (codes "0000042") ≡ false) }
@@ -104,6 +108,11 @@ pub fn small_answers_are_told()
     ensures memory { answer_line no_memory ≡ Some (codes "impeccable: no memory\n") }
     ensures count { answer_line (refused (unreadable (too_many 2 cover_inputs))) ≡ Some (codes "impeccable: B7 line 2 too many cover\n") }
     ensures distance { answer_line (refused (too_small 2 3)) ≡ Some (codes "impeccable: S5 distance 2 below 3\n") }
+    ensures correction { answer_line (refused not_yet_correct) ≡ Some (codes "impeccable: N2 not yet correct\n") }
+    ensures no_net { answer_line (refused (bad_layout (no_such_net (codes "zz")))) ≡ Some (codes "impeccable: L1 no such net zz\n") }
+    ensures two_words { answer_line (refused (bad_layout (in_two_words (codes "q")))) ≡ Some (codes "impeccable: L2 in two words q\n") }
+    ensures no_word { answer_line (refused (bad_layout (not_in_a_word (codes "q")))) ≡ Some (codes "impeccable: L3 in no word q\n") }
+    ensures large { answer_line (refused guard_too_large) ≡ Some (codes "impeccable: G1 guard too large\n") }
     ensures reserved { answer_line (refused (unsound (reserved (codes "a\\")))) ≡ Some (codes "impeccable: E10 reserved a\\x5c\n") }
     ensures port { answer_line (refused (unsound (bad_port (codes "s") (codes "q\\")))) ≡ Some (codes "impeccable: E3 bad port s q\\x5c\n") }
 {}

@@ -1,3 +1,5 @@
 pub mod FindingLaws
+pub mod OneLayout
+pub mod GuardLaws
 pub mod StepLaws
 pub mod WalkLaws

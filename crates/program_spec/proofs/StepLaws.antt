@@ -1,5 +1,5 @@
 -- Each test has one answer, and so each command one verdict.
-use Rattle.std.proofs.Common.{◌≡◌, refl, sym, ◌∙◌, ap, subst, ℕ, List, length, Option, Some, None, Result, Ok, Err}
+use Rattle.std.proofs.Common.{◌≡◌, refl, sym, ◌∙◌, ap, subst, ℕ, ◌≤◌, List, length, Option, Some, None, Result, Ok, Err, arith}
 use Rattle.std.specs.Prelude.{IsSomeAnd}
 use Rattle.netlist_spec.specs.Netlist.{Model, File}
 use Rattle.netlist_spec.specs.Models.{main_model, data_inputs}
@@ -12,15 +12,19 @@ use Rattle.netlist_spec.proofs.OneReading.{one_reading}
 use Rattle.netlist_spec.proofs.NoFault.{reads_no_fault}
 use Rattle.netlist_spec.proofs.SoundHasNoFault.{sound_no_fault}
 use Rattle.refusal_laws.proofs.OneRefusal.{one_refusal as one_fault}
+use Rattle.size_laws.proofs.AloneSizes.{size_alone}
+use Rattle.guard_spec.specs.Codes.{Code, detect, correct, IsDistance, needed_distance, rail_count}
+use Rattle.guard_spec.specs.Words.{Settings, Layout, LayoutFault, layout_fault}
 use Rattle.guard_spec.specs.SettingsFile.{settings_of_bytes}
 use Rattle.stimulus_spec.specs.Stimulus.{stimulus_of, script_of}
-use Rattle.program_spec.specs.Commands.{Command, flat, code, sim, audit}
+use Rattle.program_spec.specs.Commands.{Command, flat, code, guard, sim, audit}
 use Rattle.program_spec.specs.Printed.{IsIndependentText, IsFindingText}
-use Rattle.program_spec.specs.Refusals.{Refusal, unreadable, bad_settings, unsound, out_of_order, bad_stimulus, bad_script_line}
+use Rattle.program_spec.specs.Refusals.{Refusal, unreadable, bad_settings, too_small, unsound, bad_layout, out_of_order, bad_stimulus, bad_script_line}
 use Rattle.program_spec.specs.Walk.{Contents, Verdict, refused, passes, IsTest, HasTests, Walk, end}
-use Rattle.program_spec.specs.Steps.{IsToldOf, gives, reading, soundness, main_of, order_of, script_in, stimulus_in}
-use Rattle.program_spec.specs.Verdict.{IsTextOfFile, load_ordered, run_walk, walk_of, IsVerdict, IsDoneText, IsFoundText}
+use Rattle.program_spec.specs.Steps.{IsToldOf, Nothing, gives, reading, soundness, detection, strength, main_of, words_of, smallness, order_of, script_in, stimulus_in}
+use Rattle.program_spec.specs.Verdict.{IsTextOfFile, guard_steps, load_ordered, run_walk, walk_of, IsVerdict, IsDoneText, IsFoundText}
 use Rattle.program_spec.proofs.FindingLaws.{nothing_found}
+use Rattle.program_spec.proofs.OneLayout.{one_layout}
 use Rattle.program_spec.proofs.WalkLaws.{one_verdict}
 
 same_some : {A : Type 0} (answer : Option A) (a b : A) → answer ≡ Some a → answer ≡ Some b → a ≡ b
@@ -91,7 +95,62 @@ stream_test m bytes = gives_test _ _ (stimulus_of (length (data_inputs m)) bytes
 script_test : (m : Model) (bytes : List ℕ) → IsTest (List Fault) (script_in m bytes)
 script_test m bytes = gives_test _ _ (script_of (cell_nets m) bytes) bad_script_line
 
+pub detection_test : (s : Settings) → IsTest Nothing (detection s)
+detection_test s =
+    record {
+      one_found = λ a b p q. refl;
+      one_refused = λ r t p q. p.1 ∙ sym q.1;
+      never_both = λ a r p q. let e : detect ≡ correct = sym p ∙ q.0 in cc e;
+    }
+
+-- a code has one distance
+one_distance : (k : Code) (d e : ℕ) → IsDistance k d → IsDistance k e → d ≡ e
+one_distance k d e a b =
+    let low : d ≤ e = subst (λ (n : ℕ). d ≤ n) b.reached (a.bound b.least b.places b.nonzero) in
+    let high : e ≤ d = subst (λ (n : ℕ). e ≤ n) a.reached (b.bound a.least a.places a.nonzero) in
+    omega arith
+
+pub strength_test : (s : Settings) → IsTest Nothing (strength s)
+strength_test s =
+    record {
+      one_found = λ a b p q. refl;
+      one_refused = λ r t (d, p, h, is) (e, q, k, also). is ∙ (ap (λ (n : ℕ). too_small n need) (one_distance s.code d e p q) ∙ sym also);
+      never_both = λ a r (d, p, h) (e, q, k, is). let same = one_distance s.code d e p q in omega (arith, same, h, k);
+    }
+  where
+    need : ℕ
+    need = needed_distance s.mode s.bound
+
+pub words_test : (m : Model) (s : Settings) → IsTest Layout (words_of m s)
+words_test m s =
+    record {
+      one_found = λ a b p q. one_layout m s a b p.0 p.1 q.1;
+      one_refused = one_told LayoutFault (layout_fault m s) bad_layout;
+      never_both = λ a r p q. none_told LayoutFault (layout_fault m s) bad_layout r p.0 q;
+    }
+
+pub smallness_test : (file : File) (s : Settings) (m : Model) (l : Layout) → IsTest Nothing (smallness file s m l)
+smallness_test file s m l =
+    record {
+      one_found = λ a b p q. refl;
+      one_refused = λ r t (n, is, large, one) (k, other, larger, same). one ∙ sym same;
+      never_both = λ a r (n, is, small) (k, other, large, told).
+          let e = size_alone file s.library m s.code s.mode s.bound (rail_count s.mode s.bound) l n k is other in
+          omega (arith, e, small, large);
+    }
+
 -- ---- the tests of each command
+
+-- those of a guard behind its settings
+guard_tests : (s : Settings) (netlist : List ℕ) → HasTests (guard_steps s netlist (λ file s m l. end))
+guard_tests s netlist = (
+  strength_test s,
+  λ strong is. λ bytes short. (
+    reading_test bytes,
+    λ file reads.
+        (soundness_test file s.library, λ sound holds. (main_test file, λ m main. (words_test m s, λ l fits. (smallness_test file s m l, λ small few. tt)))),
+  ),
+)
 
 -- those of a netlist that can be evaluated line by line, before others
 ordered_tests : (netlist : List ℕ) (next : File → Model → Walk) → ((file : File) (m : Model) → HasTests (next file m)) → HasTests (load_ordered netlist next)
@@ -100,6 +159,7 @@ ordered_tests netlist next rest = λ bytes short. (reading_test bytes, λ file r
 pub has_tests : (command : Command) → HasTests (walk_of command)
 has_tests (flat netlist) = λ bytes short. (reading_test bytes, λ file reads. (soundness_test file empty_library, λ sound is. tt))
 has_tests (code settings) = λ text short. (gives_test _ _ (settings_of_bytes text) bad_settings, λ s is. tt)
+has_tests (guard settings netlist) = λ text short. (gives_test _ _ (settings_of_bytes text) bad_settings, λ s is. (detection_test s, λ detects mode. guard_tests s netlist))
 has_tests (sim netlist stimulus script) =
     ordered_tests netlist (λ file m. run_walk m stimulus script)
     (λ file m. λ text short. (stream_test m text, λ xs is. λ lines few. (script_test m lines, λ faults said. tt)))

@@ -7,6 +7,7 @@ use Rattle.netlist_spec.specs.Digits.{decimal_of}
 pub data Command : Type 0 where
   flat : (netlist : List ℕ) → Command
   code : (settings : List ℕ) → Command
+  guard : (settings netlist : List ℕ) → Command
   sim : (netlist stimulus script : List ℕ) → Command
   audit : (netlist : List ℕ) → Command
 
@@ -18,6 +19,7 @@ command_of (word ∷ file ∷ []) =
     else if same_name word (codes "code") then Some (code file)
     else if same_name word (codes "audit") then Some (audit file)
     else None
+command_of (word ∷ settings ∷ netlist ∷ []) = if same_name word (codes "guard") then Some (guard settings netlist) else None
 command_of (word ∷ netlist ∷ stimulus ∷ script ∷ []) = if same_name word (codes "sim") then Some (sim netlist stimulus script) else None
 command_of _ = None
 

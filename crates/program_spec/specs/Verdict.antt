@@ -5,16 +5,17 @@ use Rattle.netlist_spec.specs.Covers.{empty_library}
 use Rattle.netlist_spec.specs.Models.{main_model, data_inputs}
 use Rattle.netlist_spec.specs.Ordered.{cell_nets}
 use Rattle.netlist_spec.specs.Reads.{Reads}
-use Rattle.netlist_spec.specs.Runs.{Fault}
+use Rattle.netlist_spec.specs.Runs.{Fault, IsSteady}
 use Rattle.netlist_spec.specs.SourceRun.{Stream}
 use Rattle.netlist_spec.specs.WrittenText.{IsFlatText}
 use Rattle.stimulus_spec.specs.Stimulus.{stimulus_of, script_of}
 use Rattle.guard_spec.specs.Words.{Settings, Layout}
 use Rattle.guard_spec.specs.SettingsFile.{settings_of_bytes}
 use Rattle.program_spec.specs.Printed.{IsReport, IsRunText, IsIndependentText, IsFindingText}
-use Rattle.program_spec.specs.Commands.{Command, flat, code, sim, audit, netlist_limit, other_limit}
+use Rattle.guard_text_spec.specs.GuardText.{IsGuardText}
+use Rattle.program_spec.specs.Commands.{Command, flat, code, guard, sim, audit, netlist_limit, other_limit}
 use Rattle.program_spec.specs.Walk.{Contents, Verdict, passes, Walk, end, load, test, ComesTo}
-use Rattle.program_spec.specs.Steps.{reading, soundness, settings_in, strength, main_of, words_of, smallness, order_of, stimulus_in, script_in}
+use Rattle.program_spec.specs.Steps.{reading, soundness, settings_in, detection, strength, main_of, words_of, smallness, order_of, stimulus_in, script_in}
 
 -- ---- steps that several commands share
 
@@ -27,12 +28,20 @@ abbrev pub load_ordered : List ℕ → (File → Model → Walk) → Walk
 load_ordered netlist next =
     load_netlist netlist (λ file. test _ (order_of file) (λ ordered. test _ (main_of file) (λ m. next file m)))
 
--- the steps of `guard`, up to the size
-abbrev pub guard_walk : List ℕ → List ℕ → (File → Settings → Model → Layout → Walk) → Walk
-guard_walk settings netlist next =
-    load settings other_limit (λ text. test _ (settings_in text) (λ s. test _ (strength s) (λ strong.
+-- settings that are read
+abbrev pub load_settings : List ℕ → (Settings → Walk) → Walk
+load_settings settings next = load settings other_limit (λ text. test _ (settings_in text) next)
+
+-- the steps of a guard behind its settings, up to the size
+abbrev pub guard_steps : Settings → List ℕ → (File → Settings → Model → Layout → Walk) → Walk
+guard_steps s netlist next =
+    test _ (strength s) (λ strong.
     load_netlist netlist (λ file. test _ (soundness file s.library) (λ sound. test _ (main_of file) (λ m.
-    test _ (words_of m s) (λ l. test _ (smallness file s m l) (λ small. next file s m l))))))))
+    test _ (words_of m s) (λ l. test _ (smallness file s m l) (λ small. next file s m l))))))
+
+-- all of them
+abbrev pub guard_walk : List ℕ → List ℕ → (File → Settings → Model → Layout → Walk) → Walk
+guard_walk settings netlist next = load_settings settings (λ s. guard_steps s netlist next)
 
 -- ---- the steps of each command
 
@@ -44,11 +53,14 @@ run_walk m stimulus script =
 
 abbrev pub walk_of : Command → Walk
 walk_of (flat netlist) = load_netlist netlist (λ file. test _ (soundness file empty_library) (λ sound. end))
-walk_of (code settings) = load settings other_limit (λ text. test _ (settings_in text) (λ s. end))
+walk_of (code settings) = load_settings settings (λ s. end)
+-- As long as there is none that corrects, `guard` tests the mode before the strength.
+walk_of (guard settings netlist) =
+    load_settings settings (λ s. test _ (detection s) (λ detects. guard_steps s netlist (λ file s m l. end)))
 walk_of (sim netlist stimulus script) = load_ordered netlist (λ file m. run_walk m stimulus script)
 walk_of (audit netlist) = load_ordered netlist (λ file m. end)
 
--- of `campaign`, which begins as `guard`
+-- of `campaign`, which begins as a guard in either mode is made
 abbrev pub campaign_walk : List ℕ → List ℕ → List ℕ → Walk
 campaign_walk settings netlist stimulus =
     guard_walk settings netlist (λ file s m l. load stimulus other_limit (λ text. test _ (stimulus_in m text) (λ xs. end)))
@@ -59,7 +71,7 @@ campaign_walk settings netlist stimulus =
 abbrev pub IsVerdict : Command → Contents → Verdict → Type 0
 IsVerdict command contents verdict = ComesTo (walk_of command) contents verdict
 
--- A pair of files is accepted where all steps of `guard` over them pass.
+-- A pair of files is accepted where all steps of a guard over them pass.
 abbrev pub IsAccepted : Contents → List ℕ → List ℕ → Type 0
 IsAccepted contents settings netlist = ComesTo (guard_walk settings netlist (λ file s m l. end)) contents passes
 
@@ -94,6 +106,8 @@ pub record IsTextOfFile (IsText : File → List ℕ → Type 0) (netlist text : 
 abbrev pub IsDoneText : Command → Contents → List ℕ → Type 0
 IsDoneText (flat netlist) contents text = IsSomeAnd (contents netlist) (λ bytes. IsFlatText bytes text empty_library)
 IsDoneText (code settings) contents text = IsSomeAnd (contents settings) (λ bytes. IsReportText bytes text)
+IsDoneText (guard settings netlist) contents text =
+    IsSomeAnd (contents settings) (λ given. IsSomeAnd (contents netlist) (λ bytes. IsGuardText given bytes text (λ t. IsSteady t)))
 IsDoneText (sim netlist stimulus script) contents text =
     IsSomeAnd (contents netlist) (λ bytes. IsSomeAnd (contents stimulus) (λ rows. IsSomeAnd (contents script) (λ entries.
     IsSimText bytes rows entries text)))

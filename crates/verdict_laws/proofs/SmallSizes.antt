@@ -1,12 +1,12 @@
 -- The step that asks whether a size is small has one answer.
-use Rattle.std.proofs.Common.{◌≡◌, refl, sym, ◌∙◌, ap, ℕ, ◌<◌, ◌≤◌, inl, inr, arith}
+use Rattle.std.proofs.Common.{◌≡◌, refl, ◌∙◌, ap, ℕ, ◌<◌, ◌≤◌, inl, inr, arith}
 use Rattle.std.specs.Prelude.{◌↔◌}
 use Rattle.netlist_spec.specs.Netlist.{Model, File}
 use Rattle.guard_spec.specs.Words.{Settings, Layout}
 use Rattle.guard_spec.specs.Plain.{IsPlain}
 use Rattle.program_spec.specs.Refusals.{guard_too_large}
 use Rattle.program_spec.specs.Steps.{Nothing, smallness}
-use Rattle.program_spec.specs.Walk.{Contents, Verdict, refused, Walk, test, ComesTo, IsTest}
+use Rattle.program_spec.specs.Walk.{Contents, Verdict, refused, Walk, test, ComesTo}
 
 -- a layout has at most one size
 abbrev pub AreAlone : Type 0
@@ -32,11 +32,3 @@ large_then alone file s m l n next contents v is large = (to, λ h. inr (guard_t
     to : ComesTo (test Nothing (smallness file s m l) next) contents v → v ≡ refused guard_too_large
     to (inl h) = let (k, other, small) = h.1 in absurd (never_both alone file s m l k n other small is large)
     to (inr h) = let (k, other, large, told) = h.1 in h.2 ∙ ap refused told
-
-pub smallness_test : AreAlone → (file : File) (s : Settings) (m : Model) (l : Layout) → IsTest Nothing (smallness file s m l)
-smallness_test alone file s m l =
-    record {
-      one_found = λ a b p q. refl;
-      one_refused = λ r t (n, is, large, one) (k, other, larger, same). one ∙ sym same;
-      never_both = λ a r (n, is, small) (k, other, large, told). never_both alone file s m l n k is small other large;
-    }
