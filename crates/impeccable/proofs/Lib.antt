@@ -3,10 +3,9 @@ pub mod StepLemmas
 pub mod LoadsLemmas
 pub mod FlatLemmas
 pub mod CodeLemmas
+pub mod GuardLemmas
 pub mod OrderedLemmas
 pub mod SimLemmas
 pub mod AuditLemmas
 pub mod OutcomeLemmas
-pub mod ErrorLineLemmas
-pub mod WriteLemmas
 pub mod ReportLemmas

@@ -13,7 +13,7 @@ use Rattle.impeccable.specs.declared.ended.Stop.{Stop}
 use Rattle.impeccable.specs.Answers.{Answers, KeepsOwn, TookTooMuch}
 use Rattle.impeccable.specs.Ended.{fault_answer, stop_answer}
 use Rattle.impeccable.specs.Loads.{IsOfContents, StopsLoad, WhereHeld}
-use Rattle.impeccable.specs.Outcome.{refusal_of}
+use Rattle.refusals.specs.Refusal.{refusal_of}
 use Rattle.impeccable.specs.Steps.{LoadsNamed, Passed, Stops}
 use Rattle.impeccable.specs.declared.ended.Stop.TheVariants.{Usage, Refused, ReadFault, WriteFault, NoMemory}
 

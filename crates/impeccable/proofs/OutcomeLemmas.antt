@@ -8,7 +8,8 @@ use Rattle.program_spec.specs.ErrorLines.{Answer}
 use Rattle.program_spec.proofs.StepLaws.{one_kind, one_refusal, passes_not_refused}
 use Rattle.impeccable.specs.declared.outcome.Outcome.{Outcome}
 use Rattle.impeccable.specs.declared.outcome.Outcome.TheVariants.{Done, Found, Usage, Refused, ReadFault, WriteFault, NoMemory}
-use Rattle.impeccable.specs.Outcome.{IsAnswer, refusal_of}
+use Rattle.impeccable.specs.Outcome.{IsAnswer}
+use Rattle.refusals.specs.Refusal.{refusal_of}
 use Rattle.impeccable.specs.Answers.{Answers, FindsThere, IsComplete, KeepsOwn, RefusesThere}
 use Rattle.impeccable.specs.Says.{Says}
 

@@ -9,10 +9,10 @@ use Rattle.program_spec.specs.Refusals.{Refusal, file_too_long}
 use Rattle.program_spec.specs.Walk.{Contents, ComesToLoad, HasLoad, passes, refused as refuses}
 use Rattle.program_spec.specs.Verdict.{walk_of, IsVerdict, IsDoneText, MayFind, IsFoundText, IsTextFor}
 use Rattle.program_spec.specs.ErrorLines.{Answer, done, found, usage, refused, read_fault, write_fault, no_memory}
-use Rattle.impeccable.specs.declared.outcome.Refusal.{Refusal as Told}
+use Rattle.refusals.specs.declared.refusal.Refusal.{Refusal as Told}
 use Rattle.impeccable.specs.declared.outcome.Outcome.{Outcome}
 use Rattle.impeccable.specs.declared.outcome.Outcome.TheVariants.{Done, Found, Refused, NoMemory}
-use Rattle.impeccable.specs.Outcome.{refusal_of}
+use Rattle.refusals.specs.Refusal.{refusal_of}
 
 -- where the contents are known, this holds of them
 abbrev pub WhereTold : FilesSeen → (Contents → Type 0) → Type 0

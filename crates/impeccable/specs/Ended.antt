@@ -10,7 +10,7 @@ use Rattle.impeccable.specs.declared.ended.Success.{Success}
 use Rattle.impeccable.specs.declared.ended.Success.TheVariants.{Done, Found}
 use Rattle.impeccable.specs.declared.ended.Stop.{Stop}
 use Rattle.impeccable.specs.declared.ended.Stop.TheVariants.{Usage, Refused, ReadFault, WriteFault, NoMemory}
-use Rattle.impeccable.specs.Outcome.{refusal_of}
+use Rattle.refusals.specs.Refusal.{refusal_of}
 
 abbrev pub stop_answer : Stop → Answer
 stop_answer Usage = usage

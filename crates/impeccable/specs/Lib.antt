@@ -5,6 +5,7 @@ pub mod Says
 pub mod Answers
 pub mod Steps
 pub mod Flat
+pub mod Guard
 pub mod Code
 pub mod Loads
 pub mod Sim

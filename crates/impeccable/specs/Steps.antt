@@ -11,7 +11,7 @@ use Rattle.impeccable.specs.declared.ended.Success.{Success}
 use Rattle.impeccable.specs.declared.ended.Success.TheVariants.{Done, Found}
 use Rattle.impeccable.specs.declared.ended.Stop.{Stop}
 use Rattle.impeccable.specs.declared.ended.Stop.TheVariants.{Usage, Refused, ReadFault, WriteFault, NoMemory}
-use Rattle.impeccable.specs.declared.outcome.Refusal.TheVariants.{FileTooLong}
+use Rattle.refusals.specs.declared.refusal.Refusal.TheVariants.{FileTooLong}
 use Rattle.impeccable.specs.Answers.{WhereTold, Answers}
 use Rattle.impeccable.specs.Ended.{stop_answer}
 

@@ -1,5 +1,5 @@
 // What the words of the command line ask for.
-ghost use Rattle.std.specs.Prelude.{◌≡◌, map, string_bytes};
+ghost use Rattle.std.specs.Prelude.{◌≡◌, [], ◌∷◌, map, string_bytes};
 ghost use Rattle.std.specs.Option.{option_map};
 ghost use Rattle.program_spec.specs.Commands.{command_of};
 ghost use Rattle.impeccable.specs.Command.{as_asked};
@@ -12,6 +12,10 @@ pub(crate) enum Command<'a> {
     },
     Code {
         settings: &'a str,
+    },
+    Guard {
+        settings: &'a str,
+        netlist: &'a str,
     },
     Sim {
         netlist: &'a str,
@@ -28,20 +32,28 @@ pub(crate) fn read_command<'a>(words: &'a [String]) -> Option<Command<'a>>
     ensures { option_map as_asked result ≡ command_of (map string_bytes words.now) }
 {
     match words {
-        [first, netlist] if first.as_str() == "flat" => Some(Command::Flat {
-            netlist: netlist.as_str(),
-        }),
-        [first, settings] if first.as_str() == "code" => Some(Command::Code {
+        [first, file] => read_short(first.as_str(), file.as_str()),
+        [first, settings, netlist] if first.as_str() == "guard" => Some(Command::Guard {
             settings: settings.as_str(),
+            netlist: netlist.as_str(),
         }),
         [first, netlist, stimulus, script] if first.as_str() == "sim" => Some(Command::Sim {
             netlist: netlist.as_str(),
             stimulus: stimulus.as_str(),
             script: script.as_str(),
         }),
-        [first, netlist] if first.as_str() == "audit" => Some(Command::Audit {
-            netlist: netlist.as_str(),
-        }),
+        _ => None,
+    }
+}
+
+// A command of one file.
+fn read_short<'a>(first: &str, file: &'a str) -> Option<Command<'a>>
+    ensures { option_map as_asked result ≡ command_of (first.now ∷ file.now ∷ []) }
+{
+    match first {
+        "flat" => Some(Command::Flat { netlist: file }),
+        "code" => Some(Command::Code { settings: file }),
+        "audit" => Some(Command::Audit { netlist: file }),
         _ => None,
     }
 }

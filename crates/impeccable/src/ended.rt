@@ -6,10 +6,12 @@ use crate::{Outcome, Refusal};
 use blif_read::BlifFault;
 use blif_write::WriteRefusal;
 use elaborate::ElabFault;
+use encode_state::LayoutFault;
 use fault_script::ScriptFault;
+use guard_source::GuardFault;
 use imp_io::SinkFault;
 use line_order::OrderFault;
-use settings::SetFault;
+use settings::{SetFault, TooSmall};
 use sim_text::StimFault;
 use std::alloc::AllocError;
 
@@ -161,6 +163,60 @@ impl<'a> From<ElabFault> for Stop<'a> {
             ElabFault::Reserved(name) => Stop::Refused(Refusal::Reserved(name)),
             ElabFault::TooLarge(what) => Stop::Refused(Refusal::TooLarge(what)),
             ElabFault::NoMemory => Stop::NoMemory,
+        }
+    }
+}
+
+impl<'a> From<TooSmall> for Stop<'a> {
+    ghost use Rattle.std.specs.Prelude.{◌≡◌};
+    ghost use Rattle.program_spec.specs.ErrorLines.{refused};
+    ghost use Rattle.program_spec.specs.Refusals.{too_small};
+    ghost use Rattle.impeccable.specs.Ended.{stop_answer};
+
+    ghost from_gives = { λ fault stop. stop_answer stop ≡ refused (too_small fault.d fault.need) };
+
+    fn from(fault: TooSmall) -> Self {
+        Stop::Refused(Refusal::TooSmall {
+            d: fault.d,
+            need: fault.need,
+        })
+    }
+}
+
+impl<'a> From<LayoutFault> for Stop<'a> {
+    ghost use Rattle.std.specs.Prelude.{◌≡◌};
+    ghost use Rattle.encode_state.specs.Faults.{fault_of};
+    ghost use Rattle.guard_spec.specs.Words.{LayoutFault as SpecFault};
+    ghost use Rattle.program_spec.specs.Refusals.{bad_layout};
+    ghost use Rattle.impeccable.specs.Ended.{fault_answer, stop_answer};
+
+    ghost from_gives = { λ fault stop. stop_answer stop ≡ fault_answer SpecFault bad_layout (fault_of fault) };
+
+    fn from(fault: LayoutFault) -> Self {
+        match fault {
+            LayoutFault::NoSuchNet(name) => Stop::Refused(Refusal::NoSuchNet(name)),
+            LayoutFault::InTwoWords(name) => Stop::Refused(Refusal::InTwoWords(name)),
+            LayoutFault::NotInAWord(name) => Stop::Refused(Refusal::NotInAWord(name)),
+            LayoutFault::NoMemory => Stop::NoMemory,
+        }
+    }
+}
+
+impl<'a> From<GuardFault> for Stop<'a> {
+    ghost use Rattle.std.specs.Prelude.{◌≡◌};
+    ghost use Rattle.guard_source.specs.Accepted.{GuardRefusal};
+    ghost use Rattle.guard_source.specs.Faults.{refusal_of as guard_refusal_of};
+    ghost use Rattle.impeccable.specs.Ended.{fault_answer, stop_answer};
+    ghost use Rattle.impeccable.specs.Guard.{guard_told};
+
+    ghost from_gives = { λ fault stop. stop_answer stop ≡ fault_answer GuardRefusal guard_told (guard_refusal_of fault) };
+
+    fn from(fault: GuardFault) -> Self {
+        match fault {
+            GuardFault::Elab(fault) => Stop::from(fault),
+            GuardFault::Words(fault) => Stop::from(fault),
+            GuardFault::TooLarge => Stop::Refused(Refusal::GuardTooLarge),
+            GuardFault::NoMemory => Stop::NoMemory,
         }
     }
 }

@@ -6,15 +6,15 @@ mod code;
 mod command;
 mod ended;
 mod error_line;
-mod escaped;
 mod flat;
+mod guard;
 mod load;
 mod netlist;
 mod outcome;
 mod program;
 mod settings_file;
 mod sim;
-mod told;
 
-pub use outcome::{Outcome, Refusal};
+pub use outcome::Outcome;
 pub use program::run;
+pub use refusals::Refusal;

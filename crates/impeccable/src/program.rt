@@ -16,12 +16,13 @@ use crate::command::{Command, read_command};
 use crate::ended::{Ended, Stop, outcome_of};
 use crate::error_line::tell;
 use crate::flat::write_flat;
+use crate::guard::write_guard;
 use crate::sim::write_run;
 use imp_io::{Files, Sink};
 use std::alloc::Global;
 
 /// What the words ask for, over any files and sinks. The words are those of a command line without the program's
-/// own name: so far `flat NETLIST`, `code SETTINGS`,
+/// own name: so far `flat NETLIST`, `code SETTINGS`, `guard SETTINGS NETLIST`,
 /// `sim NETLIST STIMULUS SCRIPT` and `audit NETLIST`.
 pub fn run<F: Files, O: Sink, E: Sink>(
     alloc: Global,
@@ -77,6 +78,7 @@ fn perform<'a, F: Files, O: Sink>(
     match command {
         Command::Flat { netlist } => write_flat(alloc, netlist, files, out),
         Command::Code { settings } => report_code(alloc, settings, files, out),
+        Command::Guard { settings, netlist } => write_guard(alloc, settings, netlist, files, out),
         Command::Sim {
             netlist,
             stimulus,

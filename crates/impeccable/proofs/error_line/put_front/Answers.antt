@@ -1,7 +1,0 @@
-use Rattle.impeccable.proofs.error_line.put_front.Goals as goal
-
-pub returns-in-Some : goal.returns-in-Some
-returns-in-Some g c = rw c.in-Some.is (rw (c.as_bytes-line.ensures.value, c.format.ensures.text) at c.put_all.ensures)
-
-pub returns-in-None : goal.returns-in-None
-returns-in-None g c = rw c.in-None.is c.put_all-in-None.ensures
