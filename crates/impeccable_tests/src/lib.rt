@@ -1,7 +1,5 @@
-//! Tests of `impeccable` and of all that it stands on, by its one call.
+//! Tests of `impeccable` by its one call: words, files and sinks, and the command `code`.
 #![tactic(auto)]
 
-#[cfg(test)]
-mod sources;
 #[cfg(test)]
 mod tests;

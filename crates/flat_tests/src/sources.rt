@@ -1,6 +1,7 @@
 // Sources under `flat`: what has no meaning is refused, and all else is flattened.
 
-use crate::tests::{held, run_line, slow_run};
+use crate::netlists::slow_run;
+use memory_runs::{held, run_line};
 use std::alloc::{AllocError, Global};
 use std::test::Fail;
 
