@@ -91,6 +91,21 @@ impl Sim {
         start(&self.latches, &mut self.stored);
     }
 
+    /// The bits that the latches have stored.
+    pub fn stored(&self) -> &[bool]
+        ensures { result.now ≡ self.now.stored }
+    {
+        &self.stored
+    }
+
+    /// Each latch has one of these bits stored.
+    pub fn restore(&mut self, stored: &[bool])
+        requires { length stored.now ≡ length self.old.stored }
+        ensures { self.new ≡ record self.old { stored = stored.now } }
+    {
+        self.stored.copy_from_slice(stored);
+    }
+
     /// The number of the cell with this output net, and None exactly where there is none.
     pub fn cell(&self, name: &[u8]) -> Option<CellId>
         ensures place { IfSome result (λ id. slice_get self.now.cells id.0 ≡ Some name.now) }
