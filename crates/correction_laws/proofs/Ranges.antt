@@ -42,18 +42,18 @@ module _ (source : Machine) (code : Code) (l : Layout) (t k : ℕ) (joined : Gat
     (is : IsJoined source code l t joined correctors nets first) where
   -- the joined list at the leaves of the guard
   module _ (v : ℕ → Bool) (s : Bits) (long : length s ≡ length source.latches) (near : StateWordsAre code (IsNear code correct t s) l.state (map v (range_with_len source.inputs (latches_of_words code l.state))) 0) where
-    inside : (u : ℕ → Bool) × IsEvaluation joined (map v (range_with_len 0 joined.leaves)) u
+    pub inside : (u : ℕ → Bool) × IsEvaluation joined (map v (range_with_len 0 joined.leaves)) u
     inside = some_evaluation joined is.is_list (map v (range_with_len 0 joined.leaves)) (length-map (range_with_len 0 joined.leaves) v ∙ length-range_with_len 0 joined.leaves)
 
-    same_leaf : (n : ℕ) → n < joined.leaves → inside.0 n ≡ v n
+    pub same_leaf : (n : ℕ) → n < joined.leaves → inside.0 n ≡ v n
     same_leaf n h =
         sym (get_or-map-range_with_len inside.0 0 joined.leaves n n false h (omega arith))
         ∙ (ap (λ (bs : Bits). get_or bs n false) inside.1.inputs ∙ get_or-map-range_with_len v 0 joined.leaves n n false h (omega arith))
 
-    same_inputs : map inside.0 (range_with_len 0 source.inputs) ≡ map v (range_with_len 0 source.inputs)
+    pub same_inputs : map inside.0 (range_with_len 0 source.inputs) ≡ map v (range_with_len 0 source.inputs)
     same_inputs = let e = is.leaves in range_same inside.0 v 0 source.inputs (λ n low high. same_leaf n (omega arith))
 
-    near_inside : StateWordsAre code (IsNear code correct t s) l.state (map inside.0 (range_with_len source.inputs (latches_of_words code l.state))) 0
+    pub near_inside : StateWordsAre code (IsNear code correct t s) l.state (map inside.0 (range_with_len source.inputs (latches_of_words code l.state))) 0
     near_inside = let e = is.leaves in subst (λ (bs : Bits). StateWordsAre code (IsNear code correct t s) l.state bs 0) (sym (range_same inside.0 v source.inputs (latches_of_words code l.state) (λ n low high. same_leaf n (omega arith)))) near
 
   module _ (bit : Bit) (old new : GateList) (last : ℕ) (same : new.leaves ≡ joined.leaves) where

@@ -1,0 +1,4 @@
+mod CorrectedWords
+mod JoinedRoom
+mod NetMarks
+mod Stands
