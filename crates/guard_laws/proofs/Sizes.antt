@@ -17,7 +17,7 @@ use Rattle.containment.proofs.Counting.{parts_are_below}
 
 -- ---- sums
 
-abbrev AtMost : List ℕ → List ℕ → Type 0
+abbrev pub AtMost : List ℕ → List ℕ → Type 0
 AtMost xs ys = AllZip (λ a b. a ≤ b) xs ys
 
 sums : (xs ys : List ℕ) → AtMost xs ys → sum_by (λ n. n) xs ≤ sum_by (λ n. n) ys
@@ -59,7 +59,7 @@ all_columns f g h (j ∷ js) =
     let rest = all_columns f g h js in
     omega arith
 
-word_costs : (code : Code) (xs ys : List ℕ) → AtMost xs ys → word_cost code xs ≤ word_cost code ys
+pub word_costs : (code : Code) (xs ys : List ℕ) → AtMost xs ys → word_cost code xs ≤ word_cost code ys
 word_costs code xs ys h =
     let a = sums xs ys h in
     let b = all_columns (column_cost code xs) (column_cost code ys) (λ j. let c = columns j code.rows xs ys h in omega arith) (range_with_len 0 code.columns) in

@@ -22,7 +22,7 @@ costs_given m is = ((λ n. (one_gate_cone_cost m n).0), λ n below. (one_gate_co
 at_place : (P : ℕ → Type 0) (xs : List ℕ) (i x : ℕ) → AllByRecursion P xs → slice_get xs i ≡ Some x → P x
 at_place P xs i x all e = all_contains P xs x all (contains_at xs i x e)
 
-stores_below : (n : ℕ) (rows : List LatchRow) → AllByRecursion (λ r. r.d < n) rows → AllByRecursion (λ k. k < n) (map (λ r. r.d) rows)
+pub stores_below : (n : ℕ) (rows : List LatchRow) → AllByRecursion (λ r. r.d < n) rows → AllByRecursion (λ k. k < n) (map (λ r. r.d) rows)
 stores_below n [] all = tt
 stores_below n (r ∷ rows) all = (all.0, stores_below n rows all.1)
 

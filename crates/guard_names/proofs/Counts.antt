@@ -54,7 +54,7 @@ all_below : (n : ℕ) (xs : List ℕ) → AllByRecursion (λ i. i < n) xs → co
 all_below n [] h = refl
 all_below n (x ∷ xs) h = let a = sum_by-cons (λ j. cond (nat_lt j n) 1 0) x xs in let rest = all_below n xs h.1 in let here : cond {A = ℕ} (nat_lt x n) 1 0 ≡ 1 = ap (λ b. cond b 1 0) (lt-ltb x n h.0) in omega arith
 
-numbers_long : (n k : ℕ) (words : Words) → IsPartition n k words → length (all_numbers words) ≡ n
+pub numbers_long : (n k : ℕ) (words : Words) → IsPartition n k words → length (all_numbers words) ≡ n
 numbers_long n k words is = sym (all_below n (all_numbers words) is.no_other) ∙ many_below n (all_numbers words) is.each_once
 
 -- each word has a number
@@ -77,7 +77,7 @@ short_words n k words is = each words is.lengths
 
 -- ---- latches
 
-summed : (code : Code) (words : Words) → latches_of_words code words ≡ length (all_numbers words) + length words * code.columns
+pub summed : (code : Code) (words : Words) → latches_of_words code words ≡ length (all_numbers words) + length words * code.columns
 summed code [] = let z : 0 ≡ 0 + 0 * code.columns = omega arith in z
 summed code (w ∷ words) =
     let a = sum_by-cons (λ v. length v + code.columns) w words in

@@ -88,10 +88,10 @@ behind old outputs cells first before nets is at are =
     ap (map net_number) is ∙ (map-append net_number old (drop first cells)
     ∙ ap (λ (ns : List ℕ). map net_number old ++ ns) (sym (drop-map net_number first cells) ∙ (ap (drop first) are ∙ drop_at before nets first (sym at))))
 
-pub outputs_made : RowsJoin → (m : Machine) (code : Code) (l : Layout) (words : Words) (leaf : List ℕ) (old mid new : GateList) (shown outputs before after : List ℕ) → IsCode code → words ≡ l.output
-    → IsPartition (length m.outputs) (data_places code) l.output → old.leaves ≤ net_count old → (gains : GainsChecks m code words leaf mid new before after) → GainsOutputs m leaf m.outputs shown old mid → outputs ≡ shown ++ gains.nets
-    → HasOutputs m code l leaf old new outputs
-outputs_made join m code l words leaf old mid new shown outputs before after is_code is partition leaves gains gained are =
+pub outputs_made : RowsJoin → (source m : Machine) (code : Code) (l : Layout) (words : Words) (leaf : List ℕ) (old mid new : GateList) (shown outputs before after : List ℕ) → IsCode code → words ≡ l.output
+    → IsPartition (length m.outputs) (data_places code) l.output → old.leaves ≤ net_count old → (gains : GainsChecks m code words leaf mid new before after) → GainsOutputs source m leaf source.outputs m.outputs shown old mid → outputs ≡ shown ++ gains.nets
+    → HasOutputs source m code l leaf old new outputs
+outputs_made join source m code l words leaf old mid new shown outputs before after is_code is partition leaves gains gained are =
     let all : AreRight m code l leaf (net_count old) (gate_output_cells old.leaves 0 shown ++ output_cells (length shown) gains.nets) new
     = join leaf m code l (net_count old) (gate_output_cells old.leaves 0 shown) (output_cells (length shown) gains.nets) mid new
     (gained.right code l [] is_code (sym (append-nil m.outputs))) gains.kept

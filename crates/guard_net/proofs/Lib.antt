@@ -1,10 +1,10 @@
-mod Lists
+pub mod Lists
 mod DataPlaces
 mod LatchRows
-mod RightCells
+pub mod RightCells
 mod StateWords
 mod CheckWords
-mod ShownOutputs
+pub mod ShownOutputs
 mod PartitionSums
 mod WatchedWords
 mod GuardParts

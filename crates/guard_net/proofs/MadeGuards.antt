@@ -17,13 +17,13 @@ use Rattle.guard_net.proofs.Lists.{keeps_leaves, keeps_trans}
 use Rattle.guard_net.proofs.RightCells.{RowsJoin}
 use Rattle.guard_net.proofs.WatchedWords.{still_watched, watched_cost}
 
-pub outputs_long : (m : Machine) (code : Code) (l : Layout) (leaf : List ℕ) (old new : GateList) (outputs : List ℕ) → HasOutputs m code l leaf old new outputs → length outputs ≡ length m.outputs + length l.output * code.columns
+pub outputs_long : (m : Machine) (code : Code) (l : Layout) (leaf : List ℕ) (old new : GateList) (outputs : List ℕ) → HasOutputs m m code l leaf old new outputs → length outputs ≡ length m.outputs + length l.output * code.columns
 outputs_long m code l leaf old new outputs has =
     ap length has.are ∙ (length-append has.shown has.checks ∙ ap₂ (λ (a b : ℕ). a + b) (sym (as_long (IsShown m.inputs old.leaves) m.outputs has.shown has.shows)) has.count)
 
 module _ (join : RowsJoin) (m : Machine) (code : Code) (l : Layout) (g : Machine) (count : ℕ) (leaf : List ℕ) (leaves : ℕ) (start first front : GateList) (outputs : List ℕ)
     (inputs : g.inputs ≡ m.inputs) (gates : IsGateList g.net) (partition : IsPartition (length m.outputs) (data_places code) l.output) (at_start : net_count start ≡ leaves) (begun : start.leaves ≡ leaves)
-    (on : HasLeaves m code l leaf leaves) (latches : HasLatches m code l leaf start first g.latches) (shown : HasOutputs m code l leaf first front outputs)
+    (on : HasLeaves m code l leaf leaves) (latches : HasLatches m code l leaf start first g.latches) (shown : HasOutputs m m code l leaf first front outputs)
     (rails : HasRails code (words_to_watch code l m.inputs (length m.outputs) outputs) count front g.net outputs g.outputs) where
   all_leaves : g.net.leaves ≡ leaves
   all_leaves = keeps_leaves start g.net (keeps_trans start front g.net (keeps_trans start first front latches.kept shown.kept) rails.kept) ∙ begun

@@ -41,11 +41,11 @@ one_gate leaves i n h = ap (λ (b : Bool). with_gate b (output_bit i, n) []) (le
 
 -- ---- one output
 
-pub passed_on : (m : Machine) (leaf : List ℕ) (o : ℕ) (net : GateList) → o < m.inputs → m.inputs ≤ net.leaves → GainsOutput m leaf o o net net
-passed_on m leaf o net h k = record {
+pub passed_on : (source m : Machine) (leaf : List ℕ) (x o : ℕ) (net : GateList) → x < source.inputs → source.inputs ≤ net.leaves → GainsOutput source m leaf x o x net net
+passed_on source m leaf x o net h k = record {
   kept = keeps_itself net;
   shows = λ i at. record { passed = λ g. refl; own = λ g. absurd (omega arith) };
-  right = λ code l i is_code at. subst (λ (cs : List Cell). AreRight m code l leaf (net_count net) cs net) (sym (no_gate net.leaves i o (omega arith))) (record { ranges = tt; end = refl });
+  right = λ code l i is_code at. subst (λ (cs : List Cell). AreRight m code l leaf (net_count net) cs net) (sym (no_gate net.leaves i x (omega arith))) (record { ranges = tt; end = refl });
   few = λ cost gives. omega arith;
 }
 
@@ -73,8 +73,8 @@ module _ (have : (m : Machine) (code : Code) (l : Layout) → IsCode code → Ha
   above : (i : ℕ) → slice_get m.outputs i ≡ Some o → net_count old ≤ k
   above i at = let row = own_cell hamming_code (record { state = []; output = [] }) i hamming_is_code at in let h = row.ranges.0.0 in omega arith
 
-  pub copied : KeepsGates old new → m.inputs ≤ o → ((cost : ℕ → ℕ) → GivesCosts m cost → net_count new ≤ net_count old + sum (bit_costs cost (o ∷ []))) → GainsOutput m leaf o k old new
-  copied keep h few = record {
+  pub copied : (source : Machine) (x : ℕ) → KeepsGates old new → source.inputs ≤ x → ((cost : ℕ → ℕ) → GivesCosts m cost → net_count new ≤ net_count old + sum (bit_costs cost (o ∷ []))) → GainsOutput source m leaf x o k old new
+  copied source x keep h few = record {
     kept = keep;
     shows = λ i at. let g = above i at in record { passed = λ p. absurd (omega arith); own = λ p. omega arith };
     right = λ code l i is_code at.
@@ -85,8 +85,8 @@ module _ (have : (m : Machine) (code : Code) (l : Layout) → IsCode code → Ha
 
 -- ---- all of them
 
-pub no_outputs : (m : Machine) (leaf : List ℕ) (net : GateList) → GainsOutputs m leaf [] [] net net
-no_outputs m leaf net = record {
+pub no_outputs : (source m : Machine) (leaf : List ℕ) (net : GateList) → GainsOutputs source m leaf [] [] [] net net
+no_outputs source m leaf net = record {
   kept = keeps_itself net;
   shows = λ back e. tt;
   count = refl;
@@ -94,7 +94,7 @@ no_outputs m leaf net = record {
   few = λ cost gives. omega arith;
 }
 
-all_zip_push : {A B : Type 0} (R : A → B → Type 0) (xs : List A) (ys : List B) (x : A) (y : B) → AllZip R xs ys → R x y → AllZip R (xs ++ x ∷ []) (ys ++ y ∷ [])
+pub all_zip_push : {A B : Type 0} (R : A → B → Type 0) (xs : List A) (ys : List B) (x : A) (y : B) → AllZip R xs ys → R x y → AllZip R (xs ++ x ∷ []) (ys ++ y ∷ [])
 all_zip_push R [] [] x y a r = (r, tt)
 all_zip_push R [] (z ∷ ys) x y a r = absurd a
 all_zip_push R (z ∷ xs) [] x y a r = absurd a
@@ -108,16 +108,16 @@ next_at all front back o e = ap (λ (ns : List ℕ). slice_get ns (length front)
     here [] = refl
     here (x ∷ xs) = here xs
 
-pub output_gained : RowsJoin → (m : Machine) (leaf outputs all shown more : List ℕ) (o n : ℕ) (old mid new : GateList) → all ≡ outputs ++ o ∷ [] → more ≡ shown ++ n ∷ []
-    → GainsOutputs m leaf outputs shown old mid → GainsOutput m leaf o n mid new → GainsOutputs m leaf all more old new
-output_gained join m leaf outputs all shown more o n old mid new is are front one =
+pub output_gained : RowsJoin → (source m : Machine) (leaf sources longer outputs all shown more : List ℕ) (x o n : ℕ) (old mid new : GateList) → longer ≡ sources ++ x ∷ [] → all ≡ outputs ++ o ∷ [] → more ≡ shown ++ n ∷ []
+    → GainsOutputs source m leaf sources outputs shown old mid → GainsOutput source m leaf x o n mid new → GainsOutputs source m leaf longer all more old new
+output_gained join source m leaf sources longer outputs all shown more x o n old mid new long is are front one =
     let same : mid.leaves ≡ old.leaves = keeps_leaves old mid front.kept in
-    subst (λ (os : List ℕ). GainsOutputs m leaf os more old new) (sym is) (subst (λ (ns : List ℕ). GainsOutputs m leaf (outputs ++ o ∷ []) ns old new) (sym are) (record {
+    subst (λ (xs : List ℕ). GainsOutputs source m leaf xs all more old new) (sym long) (subst (λ (os : List ℕ). GainsOutputs source m leaf (sources ++ x ∷ []) os more old new) (sym is) (subst (λ (ns : List ℕ). GainsOutputs source m leaf (sources ++ x ∷ []) (outputs ++ o ∷ []) ns old new) (sym are) (record {
       kept = keeps_trans old mid new front.kept one.kept;
       shows = λ back e.
           let split : m.outputs ≡ outputs ++ o ∷ back = e ∙ append_assoc outputs (o ∷ []) back in
-          all_zip_push (IsShown m.inputs old.leaves) outputs shown o n (front.shows (o ∷ back) split)
-          (subst (λ (k : ℕ). IsShown m.inputs k o n) same (one.shows (length outputs) (next_at m.outputs outputs back o split)));
+          all_zip_push (IsShown source.inputs old.leaves) sources shown x n (front.shows (o ∷ back) split)
+          (subst (λ (k : ℕ). IsShown source.inputs k x n) same (one.shows (length outputs) (next_at m.outputs outputs back o split)));
       count = length-append shown (n ∷ []) ∙ (ap (λ (k : ℕ). k + 1) front.count ∙ sym (length-append outputs (o ∷ [])));
       right = λ code l back is_code e.
           let split : m.outputs ≡ outputs ++ o ∷ back = e ∙ append_assoc outputs (o ∷ []) back in
@@ -130,7 +130,7 @@ output_gained join m leaf outputs all shown more o n old mid new is are front on
           let b = one.few cost gives in
           let c : sum (bit_costs cost (outputs ++ o ∷ [])) ≡ sum (bit_costs cost outputs) + (2 + cost o) = ap sum (map_push (λ (k : ℕ). 2 + cost k) outputs o) ∙ sum_by_push (λ (k : ℕ). k) (bit_costs cost outputs) (2 + cost o) in
           omega (arith, a, b, c);
-    }))
+    })))
 
 pub room_for_output : (cost : ℕ → ℕ) (outputs : List ℕ) (i o n first most : ℕ) → i < length outputs → o ≡ get_or outputs i 0 → n ≤ first + sum (bit_costs cost (take i outputs)) → first + sum (bit_costs cost outputs) ≤ most → n + (2 + cost o) ≤ most
 room_for_output cost outputs i o n first most h is so_far all =

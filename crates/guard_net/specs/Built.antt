@@ -73,18 +73,19 @@ pub record GainsWords (m : Machine) (code : Code) (words : Words) (leaf : List �
 
 -- ---- outputs
 
--- Output o of the source is shown by net n, with a cell of its own where it is no data input.
-pub record GainsOutput (m : Machine) (leaf : List ℕ) (o n : ℕ) (old new : GateList) : Type 0 where
+-- Output x of the source, for which output o of the machine stands, is shown by net n, with a cell of its own where it is no
+-- data input.
+pub record GainsOutput (source m : Machine) (leaf : List ℕ) (x o n : ℕ) (old new : GateList) : Type 0 where
   pub kept : KeepsGates old new
-  pub shows : (i : ℕ) → slice_get m.outputs i ≡ Some o → IsShown m.inputs old.leaves o n
+  pub shows : (i : ℕ) → slice_get m.outputs i ≡ Some o → IsShown source.inputs old.leaves x n
   pub right : (code : Code) (l : Layout) (i : ℕ) → IsCode code → slice_get m.outputs i ≡ Some o
       → AreRight m code l leaf (net_count old) (gate_output_cells old.leaves i (n ∷ [])) new
   pub few : (cost : ℕ → ℕ) → GivesCosts m cost → net_count new ≤ net_count old + (2 + cost o)
 
 -- So it is for the first outputs.
-pub record GainsOutputs (m : Machine) (leaf outputs shown : List ℕ) (old new : GateList) : Type 0 where
+pub record GainsOutputs (source m : Machine) (leaf sources outputs shown : List ℕ) (old new : GateList) : Type 0 where
   pub kept : KeepsGates old new
-  pub shows : (back : List ℕ) → m.outputs ≡ outputs ++ back → AllZip (IsShown m.inputs old.leaves) outputs shown
+  pub shows : (back : List ℕ) → m.outputs ≡ outputs ++ back → AllZip (IsShown source.inputs old.leaves) sources shown
   pub count : length shown ≡ length outputs
   pub right : (code : Code) (l : Layout) (back : List ℕ) → IsCode code → m.outputs ≡ outputs ++ back
       → AreRight m code l leaf (net_count old) (gate_output_cells old.leaves 0 shown) new
@@ -126,13 +127,13 @@ pub record HasLatches (m : Machine) (code : Code) (l : Layout) (leaf : List ℕ)
   pub right : AreRight m code l leaf (net_count old) (latch_cells (map (λ r. r.d) rows)) new
   pub few : (cost : ℕ → ℕ) → GivesCosts m cost → net_count new ≤ net_count old + words_cost cost code (stores_of m) l.state
 
--- The outputs of a guard without its rails: those of the source, and then check bits.
-pub record HasOutputs (m : Machine) (code : Code) (l : Layout) (leaf : List ℕ) (old new : GateList) (outputs : List ℕ) : Type 0 where
+-- The outputs of a guard without its rails: those of the source, copied out of the machine, and then check bits.
+pub record HasOutputs (source m : Machine) (code : Code) (l : Layout) (leaf : List ℕ) (old new : GateList) (outputs : List ℕ) : Type 0 where
   pub kept : KeepsGates old new
   pub shown : List ℕ
   pub checks : List ℕ
   pub are : outputs ≡ shown ++ checks
-  pub shows : AllZip (IsShown m.inputs old.leaves) m.outputs shown
+  pub shows : AllZip (IsShown source.inputs old.leaves) source.outputs shown
   pub count : length checks ≡ length l.output * code.columns
   pub right : AreRight m code l leaf (net_count old) (gate_output_cells old.leaves 0 shown ++ output_cells (length shown) checks) new
   pub below : AllByRecursion (λ n. n < net_count new) outputs

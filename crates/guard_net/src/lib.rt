@@ -1,4 +1,4 @@
-//! The gates of a guard in detection.
+//! The gates of a guard in detection, and of one whose bits are copied out of another machine its latches and outputs.
 #![tactic(auto)]
 
 mod guard;
@@ -10,3 +10,5 @@ mod rows;
 mod words;
 
 pub use guard::build;
+pub use parts::{add_latches, add_shown};
+pub use rails::word_run;

@@ -12,49 +12,55 @@ use guard_cells::{Sketch, add_copies, rows_of_cells_join};
 use guard_laws::words_have_places;
 use std::alloc::{AllocError, Global};
 
-// The net of one output: a data input is passed on, and another net is a copy with a cell of its own.
+// The net of one output `x` of the source: a data input is passed on, and for another net there is a copy of output `o` of
+// the machine with a cell of its own.
 fn add_output(
     alloc: Global,
+    source: &Machine,
     m: &Machine,
+    x: NetId,
     o: NetId,
     leaf: &[NetId],
     s: &mut Sketch,
 ) -> Result<NetId, AllocError>
     requires machine { IsMachine m.now }
     requires net { o.0 < net_count m.now.net }
-    requires inputs { m.now.inputs ≤ s.old.net.leaves }
+    requires inputs { source.now.inputs ≤ s.old.net.leaves }
     requires leaves { length leaf.now ≡ m.now.net.leaves }
     requires leaf { AllByRecursion (λ n. n < net_count s.old.net) (map net_number leaf.now) }
     requires room { (cost : ℕ → ℕ) × GivesCosts m.now cost × (net_count s.old.net + (2 + cost o.0) ≤ 2 ^ 23) }
-    ensures { IfOk result (λ n. GainsOutput m.now (map net_number leaf.now) o.0 n.0 s.old.net s.new.net) }
+    ensures { IfOk result (λ n. GainsOutput source.now m.now (map net_number leaf.now) x.0 o.0 n.0 s.old.net s.new.net) }
 {
-    if o.0 < m.inputs {
-        return Ok(o);
+    if x.0 < source.inputs {
+        return Ok(x);
     }
     words_have_places();
     add_copies(alloc, m, &[o], leaf, s)?;
     Ok(s.cells[s.cells.len() - 1])
 }
 
-/// The nets of all outputs of the source, in order.
+/// The nets of all outputs of the source, in order, copied out of a machine that has an output for each of them.
 pub(crate) fn add_outputs(
     alloc: Global,
+    source: &Machine,
     m: &Machine,
     leaf: &[NetId],
     s: &mut Sketch,
 ) -> Result<Vec<NetId>, AllocError>
     requires machine { IsMachine m.now }
-    requires inputs { m.now.inputs ≤ s.old.net.leaves }
+    requires outputs { length m.now.outputs ≡ length source.now.outputs }
+    requires inputs { source.now.inputs ≤ s.old.net.leaves }
     requires leaves { length leaf.now ≡ m.now.net.leaves }
     requires leaf { AllByRecursion (λ n. n < net_count s.old.net) (map net_number leaf.now) }
     requires room { (cost : ℕ → ℕ) × GivesCosts m.now cost
         × (net_count s.old.net + sum (bit_costs cost m.now.outputs) ≤ 2 ^ 23) }
-    ensures { IfOk result (λ shown. GainsOutputs m.now (map net_number leaf.now) m.now.outputs (map net_number shown.items) s.old.net s.new.net) }
+    ensures { IfOk result (λ shown. GainsOutputs source.now m.now (map net_number leaf.now) source.now.outputs m.now.outputs (map net_number shown.items) s.old.net s.new.net) }
 {
     rows_of_cells_join();
     let mut shown = Vec::new(alloc);
-    for o in &m.outputs {
-        let n = add_output(alloc, m, *o, leaf, s)?;
+    for (i, o) in m.outputs.iter().enumerate() {
+        let x = source.outputs[i];
+        let n = add_output(alloc, source, m, x, *o, leaf, s)?;
         shown.push(n)?;
     }
     Ok(shown)

@@ -39,8 +39,8 @@ fn append_behind(outputs: &mut Vec<NetId>, cells: &[NetId], first: usize) -> Res
     Ok(())
 }
 
-/// The latches of a guard, with the cells that they store.
-pub(crate) fn add_latches(
+/// The latches of a guard, with the cells that they store. The nets of `leaf` stand for the leaves of the machine.
+pub fn add_latches(
     alloc: Global,
     m: &Machine,
     l: &Layout,
@@ -63,9 +63,11 @@ pub(crate) fn add_latches(
     Ok(rows)
 }
 
-/// The outputs of a guard without its rails.
-pub(crate) fn add_shown(
+/// The outputs of a guard without its rails: those of the source, copied out of a machine that has an output for each of
+/// them, and check bits. In detection the machine is the source itself.
+pub fn add_shown(
     alloc: Global,
+    source: &Machine,
     m: &Machine,
     l: &Layout,
     leaf: &[NetId],
@@ -73,17 +75,18 @@ pub(crate) fn add_shown(
     s: &mut Sketch,
 ) -> Result<Vec<NetId>, AllocError>
     requires machine { IsMachine m.now }
+    requires outputs { length m.now.outputs ≡ length source.now.outputs }
     requires words { IsPartition (length m.now.outputs) (data_places code.now) l.now.output }
-    requires inputs { m.now.inputs ≤ s.old.net.leaves }
+    requires inputs { source.now.inputs ≤ s.old.net.leaves }
     requires leaves { length leaf.now ≡ m.now.net.leaves }
     requires leaf { AllByRecursion (λ n. n < net_count s.old.net) (map net_number leaf.now) }
     requires room { (cost : ℕ → ℕ) × GivesCosts m.now cost
         × (net_count s.old.net + words_cost cost code.now m.now.outputs l.now.output ≤ 2 ^ 23) }
-    ensures { IfOk result (λ outputs. HasOutputs m.now code.now l.now (map net_number leaf.now) s.old.net s.new.net (map net_number outputs.items)) }
+    ensures { IfOk result (λ outputs. HasOutputs source.now m.now code.now l.now (map net_number leaf.now) s.old.net s.new.net (map net_number outputs.items)) }
 {
     rows_of_cells_join();
     let _columns = code.r();
-    let mut outputs = add_outputs(alloc, m, leaf, s)?;
+    let mut outputs = add_outputs(alloc, source, m, leaf, s)?;
     let first = s.cells.len();
     add_output_checks(alloc, m, &l.output, leaf, code, s)?;
     append_behind(&mut outputs, &s.cells, first)?;

@@ -39,6 +39,19 @@ fn check_run(first: u32, len: u32) -> ArrayVec<NetId, 16>
     nets
 }
 
+/// The nets of a word from net `at` on: those of its data places, and behind them those of its check places.
+pub fn word_run(at: u32, len: u32, columns: u32) -> WordNets
+    requires places { len ≤ 12 }
+    requires checks { columns ≤ 16 }
+    requires fits { at + len + columns < 2 ^ 32 }
+    ensures { word_nets result ≡ record { places = range_with_len at len; checks = range_with_len (at + len) columns } }
+{
+    WordNets {
+        places: data_run(at, len),
+        checks: check_run(at + len, columns),
+    }
+}
+
 // The nets of a part of a list.
 fn part(nets: &[NetId], first: usize, len: usize) -> ArrayVec<NetId, 16>
     requires room { len ≤ 16 }
@@ -67,9 +80,7 @@ pub(crate) fn push_state_words(
     let mut at = first;
     for word in words {
         let len = word.len() as u32;
-        let places = data_run(at, len);
-        let checks = check_run(at + len, columns);
-        watched.push(WordNets { places, checks })?;
+        watched.push(word_run(at, len, columns))?;
         at += len + columns;
     }
     Ok(())

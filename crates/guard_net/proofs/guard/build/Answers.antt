@@ -6,7 +6,9 @@ use Rattle.netlist_spec.specs.Gates.{GateList, Machine}
 use Rattle.gate_net.specs.Gate.{net_number}
 use Rattle.gate_net.specs.GateNet.{net_count}
 use Rattle.gate_net.specs.Machine.{machine_of}
-use Rattle.guard_spec.specs.Codes.{detect}
+use Rattle.guard_spec.specs.Codes.{IsDistance, detect}
+use Rattle.guard_spec.specs.Regions.{Guarded}
+use Rattle.containment.specs.Built.{IsBuilt, IsTellingGuard}
 use Rattle.guard_laws.specs.Promised.{IsGuardOf}
 use Rattle.guard_cells.specs.Cells.{ranges_from}
 use Rattle.guard_made.specs.Made.{rail_cells_of, word_cells}
@@ -112,10 +114,26 @@ returns c =
     refl c.len-nets.ensures.well_formed.gates c.requires.output begun (ap (λ (net : GateList). net.leaves) made) (subst (λ (ns : List ℕ). HasLeaves m code l ns c.in_ok-leaves.leaves.count) (sym (ap (map net_number) c.as_slice-leaf.ensures.value)) on) c.in_ok-latches.ensures c.in_ok-outputs.ensures c.in_ok-add_alarms.ensures in
     let regions : List Region = ranges_from g.net.leaves (word_cells g made_so.nets ++ rail_cells_of made_so.nets) in
     let many : length made_so.nets.rails ≡ c.from-rails.result + 1 = made_so.rail_number ∙ ap (λ (k : ℕ). k + 1) (sym c.from-rails.ensures) in
+    let guarded : Guarded = record { machine = g; rails = c.from-rails.result + 1; regions = regions } in
+    let guard : (radius : ℕ) → IsGuardOf guarded m code detect radius rails l = λ radius. subst (λ (k : ℕ). IsGuardOf (record { machine = g; rails = k; regions = regions }) m code detect radius rails l) many
+    (c.made_machines_are_guards.ensures m g code l rails made_so c.in_ok-leaves.ensures.machine c.r-columns.ensures.valid c.requires.state c.requires.output radius) in
+    let built : (radius : ℕ) → IsBuilt guarded m code detect radius l = λ radius. c.built_guards_keep_their_bits.ensures.built guarded m code detect radius rails l (guard radius) in
+    let tells = c.built_guards_keep_their_bits.ensures.tells guarded m code detect c.args.t rails l (guard c.args.t) in
+    let telling : (d : ℕ) → IsDistance code d → IsTellingGuard guarded m code d detect c.args.t l = λ d is_distance. record {
+      coded = record { is_code = c.r-columns.ensures.valid; is_distance = is_distance; state_words = c.requires.state; output_words = c.requires.output };
+      built = built c.args.t;
+      tells = tells;
+    } in
+    let enough : c.args.t < guarded.rails = let r = c.from-rails.ensures in omega (arith, r) in
     record {
       guard = (
         regions,
-        λ radius. subst (λ (k : ℕ). IsGuardOf (record { machine = g; rails = k; regions = regions }) m code detect radius rails l) many
-            (c.made_machines_are_guards.ensures m g code l rails made_so c.in_ok-leaves.ensures.machine c.r-columns.ensures.valid c.requires.state c.requires.output radius),
+        record {
+          guard = guard;
+          built = built;
+          tells = tells;
+          faithful = λ d is_distance. c.guards_are_faithful.ensures.told guarded m code d detect c.args.t l (telling d is_distance);
+          detects = λ d is_distance below. c.guards_detect.ensures.steady guarded m code d c.args.t l (telling d is_distance) below enough;
+        },
       );
     }

@@ -39,6 +39,6 @@ returns c =
     let at : c.len-first.result ≡ length before = let long = length-map cells.items net_number in omega (arith, c.len-first.ensures, filled, long) in
     let leaves : old.leaves ≤ net_count old = omega arith in
     let outputs = c.append_behind.new.outputs.items in
-    outputs_made c.rows_of_cells_join.ensures.join c.args.m.now c.args.code.now l (words_in c.deref.result.now) (map net_number c.args.leaf.now) old c.add_outputs.new.s.net c.add_output_checks.new.s.net
+    outputs_made c.rows_of_cells_join.ensures.join c.args.source.now c.args.m.now c.args.code.now l (words_in c.deref.result.now) (map net_number c.args.leaf.now) old c.add_outputs.new.s.net c.add_output_checks.new.s.net
     (map net_number c.in_ok-outputs.outputs.items) (map net_number outputs) before (map net_number c.add_output_checks.new.s.cells.items) c.r-columns.ensures.valid same c.requires.words leaves gains c.in_ok-outputs.ensures
     (behind c.in_ok-outputs.outputs.items outputs c.deref-2.result.now c.len-first.result before gains.nets c.in_ok-append_behind.ensures at (ap (map net_number) c.deref-2.ensures.value ∙ gains.cells))
