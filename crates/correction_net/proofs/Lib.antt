@@ -1,0 +1,4 @@
+mod StandIn
+mod Sizes
+mod Ranges
+mod Made
