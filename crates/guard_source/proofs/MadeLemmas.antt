@@ -4,8 +4,7 @@ use Rattle.netlist_spec.specs.GateRanges.{Region}
 use Rattle.netlist_spec.specs.Netlist.{File, Model, Name}
 use Rattle.netlist_spec.specs.Models.{latch_outputs}
 use Rattle.netlist_spec.specs.Elaborated.{Elaborated, IsElaborated}
-use Rattle.guard_spec.specs.Codes.{Code, Mode, data_places, detect, rail_count}
-use Rattle.guard_spec.specs.Plain.{IsMachineSizeWith}
+use Rattle.guard_spec.specs.Codes.{Code, Mode, data_places}
 use Rattle.guard_spec.specs.Regions.{Guarded}
 use Rattle.guard_spec.specs.Words.{IsLayoutOver, IsPartition, Layout, Settings}
 use Rattle.guard_laws.specs.Promised.{IsGuardOf}
@@ -22,16 +21,16 @@ elaborated_by file tables same linears alike m e a b is =
     subst (λ (ls : List NamedLinear). IsElaborated file (library_of same ls) m e) b (subst (λ (ts : List NamedTable). IsElaborated file (library_of ts linears) m e) a is)
 
 -- the nets that the builder gives, as the naming takes them
-pub guard_seen : (g : GuardNets) (regions : List Region) (opened e : Elaborated) (code : Code) (radius rails : ℕ) (l : Layout) → opened ≡ e
-    → IsGuardOf (guarded_of g opened.machine.inputs regions) opened.machine code detect radius rails l → IsGuardOf (guarded_of g e.machine.inputs regions) e.machine code detect radius rails l
-guard_seen g regions opened e code radius rails l same is = subst (λ (x : Elaborated). IsGuardOf (guarded_of g x.machine.inputs regions) x.machine code detect radius rails l) same is
+pub guard_seen : (g : GuardNets) (regions : List Region) (opened e : Elaborated) (code : Code) (mode : Mode) (radius rails : ℕ) (l : Layout) → opened ≡ e
+    → IsGuardOf (guarded_of g opened.machine.inputs regions) opened.machine code mode radius rails l → IsGuardOf (guarded_of g e.machine.inputs regions) e.machine code mode radius rails l
+guard_seen g regions opened e code mode radius rails l same is = subst (λ (x : Elaborated). IsGuardOf (guarded_of g x.machine.inputs regions) x.machine code mode radius rails l) same is
 
-pub to_name : (g : GuardNets) (regions : List Region) (e : Elaborated) (code : Code) (radius rails : ℕ) (l : Layout) → IsGuardOf (guarded_of g e.machine.inputs regions) e.machine code detect radius rails l → IsToName g e code l
-to_name g regions e code radius rails l is = record {
+pub to_name : (g : GuardNets) (regions : List Region) (e : Elaborated) (code : Code) (mode : Mode) (radius rails : ℕ) (l : Layout) → IsGuardOf (guarded_of g e.machine.inputs regions) e.machine code mode radius rails l → IsToName g e code l
+to_name g regions e code mode radius rails l is = record {
   regions = regions;
-  mode = detect;
+  mode = mode;
   radius = radius;
-  guard = subst (λ (n : ℕ). IsGuardOf (guarded_of g e.machine.inputs regions) e.machine code detect radius n l) (sym is.rail_number) is;
+  guard = subst (λ (n : ℕ). IsGuardOf (guarded_of g e.machine.inputs regions) e.machine code mode radius n l) (sym is.rail_number) is;
 }
 
 module _ (file : File) (s : Settings) (l : Layout) (settled : IsSettled file s l) (e : Elaborated) (elaborated : IsElaborated file s.library settled.m e) where
@@ -58,9 +57,5 @@ module _ (file : File) (s : Settings) (l : Layout) (settled : IsSettled file s l
       let few = elaborated.form.few_inputs.0 in
       omega arith
 
-  module _ (mode : s.mode ≡ detect) where
-    pub size_in_detection : (n : ℕ) → IsMachineSizeWith e.machine s.code s.mode s.bound (rail_count s.mode s.bound) l n → IsMachineSizeWith e.machine s.code detect s.bound (s.bound + 1) l n
-    size_in_detection n is = subst (λ (k : Mode). IsMachineSizeWith e.machine s.code k s.bound (rail_count k s.bound) l n) mode is
-
-    pub guard_of_settings : (g : Guarded) → IsGuardOf g e.machine s.code detect s.bound (s.bound + 1) l → IsGuardOf g e.machine s.code s.mode s.bound (rail_count s.mode s.bound) l
-    guard_of_settings g is = subst (λ (k : Mode). IsGuardOf g e.machine s.code k s.bound (rail_count k s.bound) l) (sym mode) is
+  pub few_gates : length e.machine.net.gates ≤ 1000000
+  few_gates = elaborated.form.few_gates

@@ -2,6 +2,7 @@
 #![tactic(auto)]
 
 mod fault;
+mod gates;
 mod source;
 
 pub use fault::GuardFault;

@@ -6,7 +6,7 @@ ghost use Rattle.netlist_spec.specs.Runs.{IsSteady};
 ghost use Rattle.netlist_spec.specs.Sound.{IsSound};
 ghost use Rattle.netlist_spec.specs.Text.{text_of};
 ghost use Rattle.netlist_spec.specs.Written.{file_of as written_file};
-ghost use Rattle.guard_spec.specs.Codes.{IsDistance, detect, needed_distance};
+ghost use Rattle.guard_spec.specs.Codes.{IsDistance, needed_distance};
 ghost use Rattle.guard_spec.specs.SettingsFile.{settings_of_bytes};
 ghost use Rattle.guard_text_spec.specs.GuardText.{IsGuardText};
 ghost use Rattle.blif_read.specs.Ids.{HasIds};
@@ -17,13 +17,13 @@ ghost use Rattle.guard_source.specs.Faults.{refusal_of};
 ghost use Rattle.guard_source.specs.Settled.{IsSettled};
 
 use crate::GuardFault;
+use crate::gates::build_for;
 use blif_read::File;
 use elaborate::elaborate_checked;
 use encode_state::layout_of;
 use encode_state::types::Layout;
 use guard_laws::machines_cost_no_more;
 use guard_names::{name_guard, steps_make_a_guard};
-use guard_net::build;
 use named_netlist::Named;
 use plain_size::size_of_checked;
 use settings::Settings;
@@ -31,12 +31,11 @@ use size_laws::machines_have_one_size;
 use source_check::{Checked, check};
 use std::alloc::{AllocError, Global};
 
-/// The gate list of a guard of a source, with names, or the first refusal of the source with its settings. The settings are
-/// those of a guard in detection, and their code is strong enough.
+/// The gate list of a guard of a source, with names, or the first refusal of the source with its settings. The code of
+/// the settings is strong enough.
 pub fn guard_source(alloc: Global, file: File, s: &Settings) -> Result<Named, GuardFault>
     requires ids { All HasIds file.models.items }
     requires is_file { IsFile (file_of file) }
-    requires mode { s.now.mode ≡ detect }
     requires strong { (d : ℕ) × IsDistance s.now.code d × (needed_distance s.now.mode s.now.bound ≤ d) }
     ensures small { OnOk result (IsSmall (file_of file) s.now) }
     // The text that it is written as is one of a guard of the source by these settings.
@@ -82,7 +81,6 @@ fn make(
 ) -> Result<Named, AllocError>
     requires ids { All HasIds file.models.items }
     requires is_file { IsFile (file_of file) }
-    requires mode { s.now.mode ≡ detect }
     requires strong { (d : ℕ) × IsDistance s.now.code d × (needed_distance s.now.mode s.now.bound ≤ d) }
     requires checked { IsChecked (file_of file) s.now.library checked.now }
     requires settled { IsSettled (file_of file) s.now l.now }
@@ -94,7 +92,7 @@ fn make(
     machines_cost_no_more();
     steps_make_a_guard();
     let e = elaborate_checked(alloc, file, &s.tables, &s.linears, checked)?;
-    let g = build(alloc, &e.machine, l, &s.code, s.bound)?;
+    let g = build_for(alloc, &e.machine, l, s)?;
     let n = name_guard(alloc, g, e, l, &s.code)?;
     Ok(n)
 }
