@@ -5,15 +5,15 @@ use Rattle.imp_io.specs.Files.{FilesSeen, IsLater}
 use Rattle.netlist_spec.specs.Netlist.{Model, File}
 use Rattle.netlist_spec.specs.Reads.{Reads}
 use Rattle.netlist_spec.specs.Runs.{IsSteady}
-use Rattle.guard_spec.specs.Codes.{IsDistance, correct, detect, needed_distance}
+use Rattle.guard_spec.specs.Codes.{IsDistance, needed_distance}
 use Rattle.guard_spec.specs.SettingsFile.{settings_of_bytes}
 use Rattle.guard_spec.specs.Words.{Settings, Layout}
 use Rattle.guard_text_spec.specs.GuardText.{IsGuardText}
 use Rattle.program_spec.specs.Commands.{guard, netlist_limit, other_limit}
-use Rattle.program_spec.specs.Refusals.{Refusal, not_yet_correct, too_small, unsound as unsound_told, bad_layout as layout_told, guard_too_large as size_told}
+use Rattle.program_spec.specs.Refusals.{Refusal, too_small, unsound as unsound_told, bad_layout as layout_told, guard_too_large as size_told}
 use Rattle.program_spec.specs.ErrorLines.{refused}
 use Rattle.program_spec.specs.Walk.{Test, Walk, end, load, test}
-use Rattle.program_spec.specs.Steps.{Nothing, detection, main_of, reading, settings_in, smallness, soundness, strength, words_of}
+use Rattle.program_spec.specs.Steps.{Nothing, main_of, reading, settings_in, smallness, soundness, strength, words_of}
 use Rattle.program_spec.specs.Verdict.{walk_of}
 use Rattle.guard_source.specs.Accepted.{GuardRefusal, unsound, bad_layout, guard_too_large, IsTaken, IsLaidOut, IsSmall, IsRefusedGuard}
 use Rattle.impeccable.specs.declared.ended.Stop.{Stop}
@@ -42,11 +42,8 @@ of_file s file = test Nothing (soundness file s.library) (λ sound. of_sound fil
 abbrev pub of_strong : List ℕ → Settings → Walk
 of_strong netlist s = load netlist netlist_limit (λ bytes. test File (reading bytes) (of_file s))
 
-abbrev pub of_mode : List ℕ → Settings → Walk
-of_mode netlist s = test Nothing (strength s) (λ strong. of_strong netlist s)
-
 abbrev pub of_settings : List ℕ → Settings → Walk
-of_settings netlist s = test Nothing (detection s) (λ detects. of_mode netlist s)
+of_settings netlist s = test Nothing (strength s) (λ strong. of_strong netlist s)
 
 -- the settings are held
 abbrev pub AreHeld : FilesSeen → List ℕ → Settings → Type 0
@@ -64,10 +61,7 @@ module _ (settings netlist : List ℕ) (old : FilesSeen) where
   pub settled : (s : Settings) → AreHeld old settings s → IsAt (of_settings netlist s)
   settled s held = tested-passes old (walk_of (guard settings netlist)) settings other_limit Settings settings_in (of_settings netlist) s starting held
 
-  pub detects : (s : Settings) → IsAt (of_settings netlist s) → s.mode ≡ detect → IsAt (of_mode netlist s)
-  detects s p mode = test-passes old (walk_of (guard settings netlist)) Nothing (detection s) (λ detects. of_mode netlist s) tt p mode
-
-  pub strong : (s : Settings) (d : ℕ) → IsAt (of_mode netlist s) → IsDistance s.code d → needed_distance s.mode s.bound ≤ d → IsAt (of_strong netlist s)
+  pub strong : (s : Settings) (d : ℕ) → IsAt (of_settings netlist s) → IsDistance s.code d → needed_distance s.mode s.bound ≤ d → IsAt (of_strong netlist s)
   strong s d p is enough = test-passes old (walk_of (guard settings netlist)) Nothing (strength s) (λ strong. of_strong netlist s) tt p (d, is, enough)
 
   pub read : (s : Settings) (file : File) → IsAt (of_strong netlist s) → IsHeld old netlist file → IsAt (of_file s file)
@@ -86,8 +80,8 @@ module _ (settings netlist : List ℕ) (old : FilesSeen) where
   small s file p is = test-passes old (walk_of (guard settings netlist)) Nothing (smallness file s is.m is.l) (λ small. end) tt (laid_out s file is.m is.l p is.laid_out) (is.n, is.is_plain, is.small)
 
   -- all that stands before the load of the netlist
-  pub ready : (s : Settings) (d : ℕ) → AreHeld old settings s → s.mode ≡ detect → IsDistance s.code d → needed_distance s.mode s.bound ≤ d → IsAt (of_strong netlist s)
-  ready s d held mode is enough = strong s d (detects s (settled s held) mode) is enough
+  pub ready : (s : Settings) (d : ℕ) → AreHeld old settings s → IsDistance s.code d → needed_distance s.mode s.bound ≤ d → IsAt (of_strong netlist s)
+  ready s d held is enough = strong s d (settled s held) is enough
 
   -- ---- what stops it
 
@@ -98,10 +92,7 @@ module _ (settings netlist : List ℕ) (old : FilesSeen) where
   refuses : (new : FilesSeen) (A : Type 0) (asks : Test A) (next : A → Walk) (refusal : Refusal) (stop : Stop) → IsAt (test A asks next) → asks.Refuses refusal → TookTooMuch (guard settings netlist) refusal old new → stop_answer stop ≡ refused refusal → Stops (guard settings netlist) old stop new
   refuses new A asks next refusal stop p h took is = fault-stops (guard settings netlist) old new A (Unit {0}) asks next (λ one. refusal) (Some tt) stop p (λ one e. h) (λ one. took) is
 
-  pub corrects : (new : FilesSeen) (s : Settings) (stop : Stop) → IsAt (of_settings netlist s) → s.mode ≡ correct → stop_answer stop ≡ refused not_yet_correct → Stops (guard settings netlist) old stop new
-  corrects new s stop p mode is = refuses new Nothing (detection s) (λ detects. of_mode netlist s) not_yet_correct stop p (mode, refl) tt is
-
-  pub weak : (new : FilesSeen) (s : Settings) (d : ℕ) (stop : Stop) → IsAt (of_mode netlist s) → IsDistance s.code d → d < needed_distance s.mode s.bound → stop_answer stop ≡ refused (too_small d (needed_distance s.mode s.bound)) → Stops (guard settings netlist) old stop new
+  pub weak : (new : FilesSeen) (s : Settings) (d : ℕ) (stop : Stop) → IsAt (of_settings netlist s) → IsDistance s.code d → d < needed_distance s.mode s.bound → stop_answer stop ≡ refused (too_small d (needed_distance s.mode s.bound)) → Stops (guard settings netlist) old stop new
   weak new s d stop p distance below is = refuses new Nothing (strength s) (λ strong. of_strong netlist s) (too_small d (needed_distance s.mode s.bound)) stop p (d, distance, below, refl) tt is
 
   pub unread : (mid new : FilesSeen) (s : Settings) (stop : Stop) → IsAt (of_strong netlist s) → IsLater old mid → StopsLoad File mid netlist netlist_limit reading (stop_answer stop) new → Stops (guard settings netlist) old stop new

@@ -127,7 +127,7 @@ put-stops command success old new out out' text Failed stop h p is =
     subst (λ a. Answers command old new out out' a) (sym is) (p.failed refl, λ known. ((ready known).0, text, (ready known).1, p.prefix))
 put-stops command success old new out out' text NoRoom stop h p is =
     let ready = either command success old text h in
-    subst (λ a. Answers command old new out out' a) (sym is) (inr (λ known. ((ready known).0, text, (ready known).1, p.prefix)))
+    subst (λ a. Answers command old new out out' a) (sym is) (inr (p.no_memory refl, λ known. ((ready known).0, text, (ready known).1, p.prefix)))
 
 -- a netlist that isn't written whole
 pub write-stops : {T : Type 0} (command : Command) (success : Success) (old new : FilesSeen) (out out' : SinkSeen) (text : List ℕ) (fault : WriteRefusal) (stop : Stop) → IsPrepared command success old text → Puts {T = T} out text (put_answer (Err fault)) out'

@@ -59,9 +59,10 @@ Answers command old new out out' (read_fault name) = (out' ≡ out) × LoadFaile
 -- a prefix of a text was appended
 Answers command old new out out' write_fault =
     Rose out.faults out'.faults × PassesWith command IsTextFor old (λ text. AppendsPrefix out.written out'.written text)
--- nothing was written, or a prefix of a text
+-- nothing was written, or a put found no memory and a prefix of a text was appended
 Answers command old new out out' no_memory =
-    (out' ≡ out) ⊎ PassesWith command IsTextFor old (λ text. AppendsPrefix out.written out'.written text)
+    (out' ≡ out)
+    ⊎ (Rose out.denied out'.denied × PassesWith command IsTextFor old (λ text. AppendsPrefix out.written out'.written text))
 
 -- A whole text is written, Done where nothing is found and Found where something is, or memory is wanting.
 abbrev pub IsWritten : Command → Contents → Outcome → Type 0

@@ -1,16 +1,11 @@
 // The command `guard SETTINGS NETLIST`.
-ghost use Rattle.std.specs.Prelude.{◌≡◌, MatchResult};
 ghost use Rattle.imp_io.specs.Files.{IsLater};
-ghost use Rattle.guard_spec.specs.Codes.{correct, detect};
 ghost use Rattle.program_spec.specs.Commands.{guard as guard_command};
-ghost use Rattle.program_spec.specs.ErrorLines.{refused};
-ghost use Rattle.program_spec.specs.Refusals.{not_yet_correct};
 ghost use Rattle.impeccable.specs.Answers.{Answers, KeepsOwn};
-ghost use Rattle.impeccable.specs.Ended.{answer_of, is_done, part_answer, stop_answer};
+ghost use Rattle.impeccable.specs.Ended.{answer_of, is_done, part_answer};
 ghost use Rattle.impeccable.specs.Flat.{named_text};
 ghost use Rattle.impeccable.specs.Steps.{Prepares};
 
-use crate::Refusal;
 use crate::ended::{Ended, Stop, Success};
 use crate::netlist::load_netlist;
 use crate::settings_file::load_settings;
@@ -18,7 +13,7 @@ use blif_write::write;
 use guard_source::guard_source;
 use imp_io::{Files, Sink};
 use named_netlist::Named;
-use settings::{Mode, Settings, strength};
+use settings::strength;
 use std::alloc::Global;
 
 /// Writes the guard of the netlist of that name, by the settings of the other.
@@ -50,20 +45,8 @@ fn make_guard<'a, F: Files>(
     ensures later { IsLater (F.seen files.old) (F.seen files.new) }
 {
     let settings = load_settings(alloc, files, settings)?;
-    test_mode(&settings)?;
     strength(&settings)?;
     let file = load_netlist(alloc, files, netlist)?;
     let named = guard_source(alloc, file, &settings)?;
     Ok(named)
-}
-
-// No guard that corrects can be made yet.
-fn test_mode<'a>(settings: &Settings) -> Result<(), Stop<'a>>
-    ensures { MatchResult result (λ _. settings.now.mode ≡ detect)
-        (λ stop. (settings.now.mode ≡ correct) × (stop_answer stop ≡ refused not_yet_correct)) }
-{
-    match settings.mode {
-        Mode::Detect => Ok(()),
-        Mode::Correct => Err(Stop::Refused(Refusal::NotYetCorrect)),
-    }
 }

@@ -15,7 +15,7 @@ ghost use Rattle.netlist_spec.specs.Lines.{plain_lines};
 ghost use Rattle.stimulus_spec.specs.Stimulus.{bad_script, more_than_sixteen, no_such_cell, script_of, stimulus_of};
 ghost use Rattle.program_spec.specs.Printed.{IsFindingText, IsIndependentText, IsReport, IsRunText, report_text, run_text};
 ghost use Rattle.program_spec.specs.ErrorLines.{answer_line, done, error_line, found, no_memory, read_fault as failed_load, refusal_text, refused, usage, write_fault};
-ghost use Rattle.program_spec.specs.Refusals.{bad_layout, guard_too_large, not_yet_correct, out_of_order, too_small, unreadable, unsound};
+ghost use Rattle.program_spec.specs.Refusals.{bad_layout, guard_too_large, out_of_order, too_small, unreadable, unsound};
 ghost use Rattle.program_spec.specs.Walk.{passes, refused as refuses};
 ghost use Rattle.netlist_spec.specs.Ordered.{has_subckt};
 ghost use Rattle.guard_spec.specs.Plain.{IsPlain};
@@ -108,7 +108,6 @@ pub fn small_answers_are_told()
     ensures memory { answer_line no_memory ≡ Some (codes "impeccable: no memory\n") }
     ensures count { answer_line (refused (unreadable (too_many 2 cover_inputs))) ≡ Some (codes "impeccable: B7 line 2 too many cover\n") }
     ensures distance { answer_line (refused (too_small 2 3)) ≡ Some (codes "impeccable: S5 distance 2 below 3\n") }
-    ensures correction { answer_line (refused not_yet_correct) ≡ Some (codes "impeccable: N2 not yet correct\n") }
     ensures no_net { answer_line (refused (bad_layout (no_such_net (codes "zz")))) ≡ Some (codes "impeccable: L1 no such net zz\n") }
     ensures two_words { answer_line (refused (bad_layout (in_two_words (codes "q")))) ≡ Some (codes "impeccable: L2 in two words q\n") }
     ensures no_word { answer_line (refused (bad_layout (not_in_a_word (codes "q")))) ≡ Some (codes "impeccable: L3 in no word q\n") }

@@ -13,7 +13,7 @@ use Rattle.netlist_spec.proofs.NoFault.{reads_no_fault}
 use Rattle.netlist_spec.proofs.SoundHasNoFault.{sound_no_fault}
 use Rattle.refusal_laws.proofs.OneRefusal.{one_refusal as one_fault}
 use Rattle.size_laws.proofs.AloneSizes.{size_alone}
-use Rattle.guard_spec.specs.Codes.{Code, detect, correct, IsDistance, needed_distance, rail_count}
+use Rattle.guard_spec.specs.Codes.{Code, IsDistance, needed_distance, rail_count}
 use Rattle.guard_spec.specs.Words.{Settings, Layout, LayoutFault, layout_fault}
 use Rattle.guard_spec.specs.SettingsFile.{settings_of_bytes}
 use Rattle.stimulus_spec.specs.Stimulus.{stimulus_of, script_of}
@@ -21,7 +21,7 @@ use Rattle.program_spec.specs.Commands.{Command, flat, code, guard, sim, audit}
 use Rattle.program_spec.specs.Printed.{IsIndependentText, IsFindingText}
 use Rattle.program_spec.specs.Refusals.{Refusal, unreadable, bad_settings, too_small, unsound, bad_layout, out_of_order, bad_stimulus, bad_script_line}
 use Rattle.program_spec.specs.Walk.{Contents, Verdict, refused, passes, IsTest, HasTests, Walk, end}
-use Rattle.program_spec.specs.Steps.{IsToldOf, Nothing, gives, reading, soundness, detection, strength, main_of, words_of, smallness, order_of, script_in, stimulus_in}
+use Rattle.program_spec.specs.Steps.{IsToldOf, Nothing, gives, reading, soundness, strength, main_of, words_of, smallness, order_of, script_in, stimulus_in}
 use Rattle.program_spec.specs.Verdict.{IsTextOfFile, guard_steps, load_ordered, run_walk, walk_of, IsVerdict, IsDoneText, IsFoundText}
 use Rattle.program_spec.proofs.FindingLaws.{nothing_found}
 use Rattle.program_spec.proofs.OneLayout.{one_layout}
@@ -95,14 +95,6 @@ stream_test m bytes = gives_test _ _ (stimulus_of (length (data_inputs m)) bytes
 script_test : (m : Model) (bytes : List ℕ) → IsTest (List Fault) (script_in m bytes)
 script_test m bytes = gives_test _ _ (script_of (cell_nets m) bytes) bad_script_line
 
-pub detection_test : (s : Settings) → IsTest Nothing (detection s)
-detection_test s =
-    record {
-      one_found = λ a b p q. refl;
-      one_refused = λ r t p q. p.1 ∙ sym q.1;
-      never_both = λ a r p q. let e : detect ≡ correct = sym p ∙ q.0 in cc e;
-    }
-
 -- a code has one distance
 one_distance : (k : Code) (d e : ℕ) → IsDistance k d → IsDistance k e → d ≡ e
 one_distance k d e a b =
@@ -159,7 +151,7 @@ ordered_tests netlist next rest = λ bytes short. (reading_test bytes, λ file r
 pub has_tests : (command : Command) → HasTests (walk_of command)
 has_tests (flat netlist) = λ bytes short. (reading_test bytes, λ file reads. (soundness_test file empty_library, λ sound is. tt))
 has_tests (code settings) = λ text short. (gives_test _ _ (settings_of_bytes text) bad_settings, λ s is. tt)
-has_tests (guard settings netlist) = λ text short. (gives_test _ _ (settings_of_bytes text) bad_settings, λ s is. (detection_test s, λ detects mode. guard_tests s netlist))
+has_tests (guard settings netlist) = λ text short. (gives_test _ _ (settings_of_bytes text) bad_settings, λ s is. guard_tests s netlist)
 has_tests (sim netlist stimulus script) =
     ordered_tests netlist (λ file m. run_walk m stimulus script)
     (λ file m. λ text short. (stream_test m text, λ xs is. λ lines few. (script_test m lines, λ faults said. tt)))

@@ -7,7 +7,7 @@ use Rattle.netlist_spec.specs.SoundFaults.{SoundFault, twice, no_such_model, bad
 use Rattle.guard_spec.specs.Words.{LayoutFault, no_such_net, in_two_words, not_in_a_word}
 use Rattle.netlist_spec.specs.Ordered.{OrderFault, unordered, has_subckt}
 use Rattle.stimulus_spec.specs.Stimulus.{ScriptFault, bad_script, no_such_cell, more_than_sixteen}
-use Rattle.program_spec.specs.Refusals.{Refusal, file_too_long, unreadable, bad_settings, too_small, not_yet_correct, unsound, bad_layout, guard_too_large, out_of_order, bad_stimulus, bad_script_line}
+use Rattle.program_spec.specs.Refusals.{Refusal, file_too_long, unreadable, bad_settings, too_small, unsound, bad_layout, guard_too_large, out_of_order, bad_stimulus, bad_script_line}
 use Rattle.netlist_spec.specs.Escapes.{escaped, quantity_word}
 
 -- `B2 line 3 bad row`
@@ -66,7 +66,6 @@ refusal_text (file_too_long name) = codes "F1 file too long " ++ escaped name
 refusal_text (unreadable fault) = read_fault_text fault
 refusal_text (bad_settings fault) = settings_fault_text fault
 refusal_text (too_small d need) = codes "S5 distance " ++ decimal d ++ codes " below " ++ decimal need
-refusal_text not_yet_correct = codes "N2 not yet correct"
 refusal_text (unsound fault) = sound_fault_text fault
 refusal_text (bad_layout fault) = layout_fault_text fault
 refusal_text guard_too_large = codes "G1 guard too large"

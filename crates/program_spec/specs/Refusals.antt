@@ -12,7 +12,6 @@ pub data Refusal : Type 0 where
   unreadable : (fault : ReadFault) → Refusal
   bad_settings : (fault : SettingsFault) → Refusal
   too_small : (d need : ℕ) → Refusal
-  not_yet_correct : Refusal
   unsound : (fault : SoundFault) → Refusal
   bad_layout : (fault : LayoutFault) → Refusal
   guard_too_large : Refusal

@@ -15,7 +15,7 @@ use Rattle.guard_spec.specs.Words.{Settings, Layout, IsLayout, layout_fault}
 use Rattle.guard_spec.specs.Plain.{IsPlain}
 use Rattle.guard_spec.specs.SettingsFile.{settings_of_bytes}
 use Rattle.stimulus_spec.specs.Stimulus.{stimulus_of, script_of}
-use Rattle.program_spec.specs.Refusals.{Refusal, unreadable, bad_settings, too_small, not_yet_correct, unsound, bad_layout, guard_too_large, out_of_order, bad_stimulus, bad_script_line}
+use Rattle.program_spec.specs.Refusals.{Refusal, unreadable, bad_settings, too_small, unsound, bad_layout, guard_too_large, out_of_order, bad_stimulus, bad_script_line}
 use Rattle.program_spec.specs.Walk.{Test}
 
 -- A test that finds nothing passes or refuses.
@@ -52,14 +52,6 @@ soundness file library =
 
 abbrev pub settings_in : List ℕ → Test Settings
 settings_in bytes = gives _ _ (settings_of_bytes bytes) bad_settings
-
--- The mode is that of detection. Guards that correct can't be made yet.
-abbrev pub detection : Settings → Test Nothing
-detection s =
-    record {
-      Finds = λ found. s.mode ≡ detect;
-      Refuses = λ refusal. (s.mode ≡ correct) × (refusal ≡ not_yet_correct);
-    }
 
 -- The distance is at least what the mode and the bound ask for.
 abbrev pub strength : Settings → Test Nothing

@@ -15,7 +15,7 @@ use Rattle.program_spec.specs.Printed.{IsReport, IsRunText, IsIndependentText, I
 use Rattle.guard_text_spec.specs.GuardText.{IsGuardText}
 use Rattle.program_spec.specs.Commands.{Command, flat, code, guard, sim, audit, netlist_limit, other_limit}
 use Rattle.program_spec.specs.Walk.{Contents, Verdict, passes, Walk, end, load, test, ComesTo}
-use Rattle.program_spec.specs.Steps.{reading, soundness, settings_in, detection, strength, main_of, words_of, smallness, order_of, stimulus_in, script_in}
+use Rattle.program_spec.specs.Steps.{reading, soundness, settings_in, strength, main_of, words_of, smallness, order_of, stimulus_in, script_in}
 
 -- ---- steps that several commands share
 
@@ -39,7 +39,7 @@ guard_steps s netlist next =
     load_netlist netlist (λ file. test _ (soundness file s.library) (λ sound. test _ (main_of file) (λ m.
     test _ (words_of m s) (λ l. test _ (smallness file s m l) (λ small. next file s m l))))))
 
--- all of them
+-- the steps of a guard from its settings on, up to the size
 abbrev pub guard_walk : List ℕ → List ℕ → (File → Settings → Model → Layout → Walk) → Walk
 guard_walk settings netlist next = load_settings settings (λ s. guard_steps s netlist next)
 
@@ -54,9 +54,7 @@ run_walk m stimulus script =
 abbrev pub walk_of : Command → Walk
 walk_of (flat netlist) = load_netlist netlist (λ file. test _ (soundness file empty_library) (λ sound. end))
 walk_of (code settings) = load_settings settings (λ s. end)
--- As long as there is none that corrects, `guard` tests the mode before the strength.
-walk_of (guard settings netlist) =
-    load_settings settings (λ s. test _ (detection s) (λ detects. guard_steps s netlist (λ file s m l. end)))
+walk_of (guard settings netlist) = guard_walk settings netlist (λ file s m l. end)
 walk_of (sim netlist stimulus script) = load_ordered netlist (λ file m. run_walk m stimulus script)
 walk_of (audit netlist) = load_ordered netlist (λ file m. end)
 

@@ -1,14 +1,10 @@
 //! Definitions of commands, of their verdicts, and of what is read and printed for them.
 #![tactic(auto)]
 
-ghost use Rattle.std.specs.Prelude.{◌≡◌, ℕ, ◌≤◌, ◌↔◌, List, None, Some, Ok, length};
-ghost use Rattle.guard_spec.specs.Codes.{correct, detect};
-ghost use Rattle.guard_spec.specs.SettingsFile.{settings_of_bytes};
-ghost use Rattle.guard_spec.specs.Words.{Settings};
-ghost use Rattle.program_spec.specs.Walk.{ComesToLoad, Contents, HasLoad, Verdict, not_held, passes, refused};
-ghost use Rattle.program_spec.specs.Commands.{Command, guard, other_limit};
-ghost use Rattle.program_spec.specs.Refusals.{not_yet_correct};
-ghost use Rattle.program_spec.specs.Verdict.{IsAccepted, IsDoneText, IsFoundText, IsVerdict, walk_of};
+ghost use Rattle.std.specs.Prelude.{◌≡◌, ℕ, List, None};
+ghost use Rattle.program_spec.specs.Walk.{ComesToLoad, Contents, HasLoad, Verdict, not_held};
+ghost use Rattle.program_spec.specs.Commands.{Command};
+ghost use Rattle.program_spec.specs.Verdict.{IsDoneText, IsFoundText, IsVerdict, walk_of};
 
 /// A command has at most one verdict over the contents of its files.
 pub fn commands_have_one_verdict()
@@ -29,17 +25,4 @@ pub fn commands_end_at_their_loads()
 pub fn texts_are_of_one_kind()
     ensures { (command : Command) (contents : Contents) (text other : List ℕ)
         → IsDoneText command contents text → IsFoundText command contents other → ⊥ }
-{}
-
-/// `guard` tests the mode besides what makes a pair of files accepted: in detection it passes exactly where the pair is
-/// accepted, in correction it is refused, and only where the pair is accepted it passes.
-pub fn accepted_pairs_in_detection_pass()
-    ensures detection { (contents : Contents) (settings netlist text : List ℕ) (s : Settings)
-        → contents settings ≡ Some text → settings_of_bytes text ≡ Ok s → s.mode ≡ detect
-        → IsAccepted contents settings netlist ↔ IsVerdict (guard settings netlist) contents passes }
-    ensures correction { (contents : Contents) (settings netlist text : List ℕ) (s : Settings)
-        → contents settings ≡ Some text → settings_of_bytes text ≡ Ok s → s.mode ≡ correct → length text ≤ other_limit
-        → IsVerdict (guard settings netlist) contents (refused not_yet_correct) }
-    ensures passed { (contents : Contents) (settings netlist : List ℕ)
-        → IsVerdict (guard settings netlist) contents passes → IsAccepted contents settings netlist }
 {}

@@ -5,10 +5,10 @@ use Rattle.netlist_spec.specs.Ordered.{unordered, has_subckt}
 use Rattle.stimulus_spec.specs.Stimulus.{bad_script, no_such_cell, more_than_sixteen}
 use Rattle.guard_spec.specs.Words.{no_such_net, in_two_words, not_in_a_word}
 use Rattle.guard_spec.specs.SettingsFile.{not_toml, missing, bad_value, unknown_key, bad_shape}
-use Rattle.program_spec.specs.Refusals.{Refusal, file_too_long, unreadable, bad_settings, not_yet_correct, too_small, unsound, bad_layout, guard_too_large, out_of_order, bad_stimulus, bad_script_line}
+use Rattle.program_spec.specs.Refusals.{Refusal, file_too_long, unreadable, bad_settings, too_small, unsound, bad_layout, guard_too_large, out_of_order, bad_stimulus, bad_script_line}
 use Rattle.imp_text.specs.Quantities.{quantity_of}
 use Rattle.refusals.specs.declared.refusal.Refusal.{Refusal as Told}
-use Rattle.refusals.specs.declared.refusal.Refusal.TheVariants.{FileTooLong, UnknownStatement, BadRow, MixedCover, BadLatch, NoModel, LongName, TooMany, TwiceModel, BadSubckt, AfterEnd, WordCount, NotToml, Missing, BadValue, UnknownKey, NotYetCorrect, TooSmall, BadShape, Twice, NoSuchModel, BadPort, Recursion, LatchInside, Depth, Undriven, Clocking, Loop, Reserved, TooLarge, NoSuchNet, InTwoWords, NotInAWord, GuardTooLarge, Unordered, HasSubckt, BadStimulus, BadScript, NoSuchCell, MoreThanSixteen}
+use Rattle.refusals.specs.declared.refusal.Refusal.TheVariants.{FileTooLong, UnknownStatement, BadRow, MixedCover, BadLatch, NoModel, LongName, TooMany, TwiceModel, BadSubckt, AfterEnd, WordCount, NotToml, Missing, BadValue, UnknownKey, TooSmall, BadShape, Twice, NoSuchModel, BadPort, Recursion, LatchInside, Depth, Undriven, Clocking, Loop, Reserved, TooLarge, NoSuchNet, InTwoWords, NotInAWord, GuardTooLarge, Unordered, HasSubckt, BadStimulus, BadScript, NoSuchCell, MoreThanSixteen}
 
 -- the refusal as plain data
 abbrev pub refusal_of : Told → Refusal
@@ -28,7 +28,6 @@ refusal_of NotToml = bad_settings not_toml
 refusal_of (Missing key) = bad_settings (missing key)
 refusal_of (BadValue key) = bad_settings (bad_value key)
 refusal_of (UnknownKey key) = bad_settings (unknown_key key)
-refusal_of NotYetCorrect = not_yet_correct
 refusal_of (TooSmall d need) = too_small d need
 refusal_of BadShape = bad_settings bad_shape
 refusal_of (Twice net) = unsound (twice net)

@@ -37,8 +37,6 @@ pub enum Refusal {
     BadValue(Text),
     /// The settings have this other key.
     UnknownKey(Text),
-    /// The settings ask for a guard that corrects, and none can be made yet.
-    NotYetCorrect,
     /// The distance of the code is below the one that the mode needs with the bound.
     TooSmall { d: u8, need: u8 },
     /// `check` is an array of texts, and no check matrix.

@@ -64,7 +64,6 @@ pub(crate) fn told_of(refusal: &Refusal) -> Told<'_>
         Refusal::Missing(key) => named("S2", "missing ", key.bytes()),
         Refusal::BadValue(key) => named("S3", "bad value ", key.bytes()),
         Refusal::UnknownKey(key) => named("S4", "unknown key ", key.bytes()),
-        Refusal::NotYetCorrect => named("N2", "not yet correct", b""),
         Refusal::TooSmall { d, need } => tailed("S5", "distance ", Tail::Below(*d, *need)),
         Refusal::BadShape => named("C1", "bad check matrix", b""),
         Refusal::Twice(net) => named("E1", "twice ", net.bytes()),
