@@ -1,0 +1,8 @@
+-- The latches so far were appended.
+use Rattle.std.proofs.Common.{◌≡◌, ◌++◌}
+use Rattle.std.specs.List.{flat_map, range_with_len}
+use Rattle.demo_design.specs.Texts.{latch_text}
+use Rattle.demo_design.proofs.netlist_text.push_latches.Given as goal
+
+abbrev pub invariant-loop-i : goal.invariant-loop-i
+invariant-loop-i l = l.text.items ≡ l.initial.text.items ++ flat_map latch_text (range_with_len 0 l.i)
