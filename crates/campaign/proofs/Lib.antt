@@ -1,0 +1,6 @@
+pub mod NearLemmas
+pub mod CycleLemmas
+pub mod RunLemmas
+pub mod SortLemmas
+pub mod SourceLemmas
+pub mod TallyLemmas
