@@ -113,6 +113,24 @@ fn sources_have_so_many_inputs(rt: HostRuntime) -> Result<(), Fail> {
     Ok(())
 }
 
+// A text of 54,922 bytes takes four puts, for three full blocks and the rest: where a put fails, no later one is tried.
+#[test]
+fn texts_are_put_in_blocks(rt: HostRuntime) -> Result<(), Fail> {
+    let alloc = rt.alloc();
+    let mut text = b".model m\n".to_vec(alloc)?;
+    for i in 0..4000 {
+        let line = format!(in alloc; ".inputs a{i}\n")?;
+        text.extend_from_slice(line.as_bytes())?;
+    }
+    let mut files = held(alloc, "e.blif", text, Vec::new(alloc))?;
+    for (put, status, long) in [(3, 4, 32768), (4, 4, 49152), (5, 0, 54922)] {
+        let ran = run_line(alloc, "flat e.blif", &mut files, vec![in alloc; (put, 0)]?)?;
+        assert_eq!(rt; ran.status, status);
+        assert_eq!(rt; ran.out.bytes().len(), long);
+    }
+    Ok(())
+}
+
 // Models without cells, in any number, have nothing to write but their ports.
 #[test]
 fn a_model_without_cells_is_placed(rt: HostRuntime) -> Result<(), Fail> {

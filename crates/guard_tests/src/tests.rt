@@ -77,14 +77,17 @@ fn settings_are_refused_first(rt: HostRuntime) -> Result<(), Fail> {
     let cases = [
         ("mode =", "S1 settings are not TOML"),
         ("mode = \"detect\"\ncheck = [\"1\"]\n", "S2 missing bound"),
-        // No guard that corrects is made yet, however strong the code is.
         (
-            "mode = \"correct\"\nbound = 1\ncheck = [\"0111\", \"1011\", \"1101\", \"1110\"]\n",
-            "N2 not yet correct",
+            "mode = \"correct\"\nbound = 2\ncheck = [\"0111\", \"1011\", \"1101\", \"1110\"]\n",
+            "S5 distance 4 below 5",
         ),
         (
-            "mode = \"correct\"\nbound = 2\ncheck = [\"1\"]\n",
-            "N2 not yet correct",
+            "mode = \"correct\"\nbound = 1\ncheck = [\"1\"]\n",
+            "S5 distance 2 below 3",
+        ),
+        (
+            "mode = \"correct\"\nbound = 16\ncheck = [\"011\", \"101\", \"110\", \"111\"]\n",
+            "S5 distance 3 below 33",
         ),
         (
             "mode = \"detect\"\nbound = 2\ncheck = [\"1\", \"1\", \"1\", \"1\"]\n",
@@ -262,16 +265,107 @@ fn tables_are_guarded(rt: HostRuntime) -> Result<(), Fail> {
     Ok(())
 }
 
-// The plain size of the guard would be 1,000,008 with this many rows.
+// A register in correction. One cell that is faulty in one cycle is within the bound: a stored bit that is wrong changes
+// nothing, and the fault of an output's own cell shows in that output and cycle alone.
 #[test]
-fn a_large_guard_is_refused(rt: HostRuntime) -> Result<(), Fail> {
+fn a_turning_bit_is_corrected(rt: HostRuntime) -> Result<(), Fail> {
     let alloc = rt.alloc();
+    let settings =
+        "mode = \"correct\"\nbound = 1\ncheck = [\"0111\", \"1011\", \"1101\", \"1110\"]\n";
+    let ran = guard(alloc, settings, INVERTER)?;
+    assert_eq!(rt; ran.err.bytes(), b"".as_slice());
+    assert_eq!(rt; ran.status, 0);
+    let front =
+        "# unknown inits 0\n.model inv\n.outputs q\n.outputs guard:o0:c0\n.outputs guard:o0:c1\n.outputs guard:o0:c2\n\
+        .outputs guard:o0:c3\n.latch guard:d0:0 guard:s0:0 0\n.latch guard:d0:1 guard:s0:1 0\n\
+        .latch guard:d0:2 guard:s0:2 0\n.latch guard:d0:3 guard:s0:3 0\n.latch guard:d0:4 guard:s0:4 0\n.names";
+    assert!(rt; ran.out.bytes().starts_with(front.as_bytes()));
+    let cases = [
+        ("", "00000\n10111\n00000\n"),
+        ("1 guard:s0:0 0\n", "00000\n10111\n00000\n"),
+        ("1 guard:d0:0 1\n", "00000\n10111\n00000\n"),
+        ("0 guard:s0:3 1\n", "00000\n10111\n00000\n"),
+        ("1 guard:o0:c1 0\n", "00000\n10011\n00000\n"),
+        ("1 q 0\n", "00000\n00111\n00000\n"),
+    ];
+    for (script, lines) in cases {
+        let run = simulate(alloc, ran.out.bytes(), "-\n-\n-\n", script)?;
+        assert_eq!(rt; run.err.bytes(), b"".as_slice());
+        assert_eq!(rt; run.out.bytes(), lines.as_bytes());
+    }
+    Ok(())
+}
+
+// The same register with a code that corrects two places, and two faulty cells in a cycle: two stored bits, two outputs, or
+// a stored bit and the cell of another one.
+#[test]
+fn two_wrong_bits_are_corrected(rt: HostRuntime) -> Result<(), Fail> {
+    let alloc = rt.alloc();
+    let settings = "mode = \"correct\"\nbound = 2\ncheck = [\"1111\"]\n";
+    let ran = guard(alloc, settings, INVERTER)?;
+    assert_eq!(rt; ran.status, 0);
+    let cases = [
+        ("", "00000\n11111\n00000\n"),
+        ("1 guard:s0:0 0\n1 guard:s0:3 0\n", "00000\n11111\n00000\n"),
+        ("1 guard:s0:4 0\n1 guard:d0:1 1\n", "00000\n11111\n00000\n"),
+        ("1 q 0\n1 guard:o0:c2 0\n", "00000\n01101\n00000\n"),
+    ];
+    for (script, lines) in cases {
+        let run = simulate(alloc, ran.out.bytes(), "-\n-\n-\n", script)?;
+        assert_eq!(rt; run.out.bytes(), lines.as_bytes());
+    }
+    Ok(())
+}
+
+// A counter in correction, six cycles: a stored bit that is wrong changes nothing, and an output that is wrong differs from
+// its word in that place alone.
+#[test]
+fn a_counter_is_corrected(rt: HostRuntime) -> Result<(), Fail> {
+    let alloc = rt.alloc();
+    let settings = "mode = \"correct\"\nbound = 1\ncheck = [\"011\", \"101\", \"110\", \"111\"]\n";
+    let counter =
+        ".model counter\n.outputs a0 a1 a2 a3\n.latch n0 a0 0\n.latch n1 a1 0\n.latch n2 a2 0\n.latch n3 a3 0\n\
+        .names a0 n0\n0 1\n.names a0 a1 n1\n10 1\n01 1\n.names a0 a1 c1\n11 1\n.names c1 a2 n2\n10 1\n01 1\n\
+        .names c1 a2 c2\n11 1\n.names c2 a3 n3\n10 1\n01 1\n.end\n";
+    let ran = guard(alloc, settings, counter)?;
+    assert_eq!(rt; ran.err.bytes(), b"".as_slice());
+    assert_eq!(rt; ran.status, 0);
+    let healthy = "0000000\n1000011\n0100101\n1100110\n0010110\n1010101\n";
+    let one_wrong = "0000000\n1000011\n0100101\n0100110\n0010110\n1010101\n";
+    let cases = [
+        ("", healthy),
+        ("3 guard:s0:0 0\n", healthy),
+        ("3 a0 0\n", one_wrong),
+    ];
+    for (script, lines) in cases {
+        let run = simulate(alloc, ran.out.bytes(), "-\n-\n-\n-\n-\n-\n", script)?;
+        assert_eq!(rt; run.err.bytes(), b"".as_slice());
+        assert_eq!(rt; run.out.bytes(), lines.as_bytes());
+    }
+    Ok(())
+}
+
+// An output of so many rows, and one that is a copy.
+fn wide_cover(alloc: Global, rows: u32) -> Result<String, AllocError> {
     let mut netlist = String::from_str(alloc, ".model big\n.inputs a\n.outputs y z\n.names a y\n")?;
-    for _ in 0..124_996 {
+    for _ in 0..rows {
         netlist.push_str("1 1\n")?;
     }
     netlist.push_str(".names a z\n1 1\n.end\n")?;
-    let ran = guard(alloc, PARITY, netlist.as_str())?;
+    Ok(netlist)
+}
+
+// The plain size of the guard is 1,000,000 with 124,995 rows, and with one row more it is 1,000,008.
+#[test]
+fn a_large_guard_is_refused(rt: HostRuntime) -> Result<(), Fail> {
+    let alloc = rt.alloc();
+    let largest = wide_cover(alloc, 124_995)?;
+    let made = guard(alloc, PARITY, largest.as_str())?;
+    assert_eq!(rt; made.err.bytes(), b"".as_slice());
+    assert_eq!(rt; made.status, 0);
+    assert!(rt; made.out.bytes().ends_with(b"\n.end\n"));
+    let larger = wide_cover(alloc, 124_996)?;
+    let ran = guard(alloc, PARITY, larger.as_str())?;
     assert_eq!(rt; ran.status, 1);
     assert_eq!(rt; ran.out.bytes(), b"".as_slice());
     assert_eq!(rt;

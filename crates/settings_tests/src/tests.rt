@@ -1,5 +1,12 @@
-use linear_layer::find_in_byte_order;
+ghost use Rattle.std.specs.Prelude.{map};
+ghost use Rattle.std.specs.Cmp.Lexicographic.{slice_cmp};
+ghost use Rattle.std.specs.List.Sorted.{IsStrictlySortedBy};
+ghost use Rattle.std.specs.Ordering.{nat_cmp};
+
+use linear_layer::{NamedLinear, find_in_byte_order};
+use sbox_table::NamedTable;
 use settings::{Mode, SetFault, TooSmall, read, strength};
+use std::alloc::{AllocError, Global};
 use std::test::Fail;
 
 fn code_name(fault: &SetFault) -> &'static str {
@@ -224,6 +231,16 @@ fn faults_of_libraries(rt: HostRuntime) -> Result<(), Fail> {
             "sbox.a.b.outputs",
         ),
         (
+            "[sbox.a.b]\ninputs = 1\noutputs = 1\nvalues = [0, 1]",
+            "S2",
+            "sbox.a.inputs",
+        ),
+        (
+            "[linear.\"a.b\"]\nrows = [\"1\"]\n[sbox.\"a.b\"]\ninputs = 1\noutputs = 1\nvalues = [0, 1]",
+            "S3",
+            "linear.a.b",
+        ),
+        (
             "[sbox.'a\"']\ninputs = 1\noutputs = 1\nvalues = [0]",
             "S3",
             "sbox.a\".values",
@@ -293,6 +310,27 @@ fn a_library_is_read(rt: HostRuntime) -> Result<(), Fail> {
     Ok(())
 }
 
+// Dots inside quotes are bytes of a name: an entry `a.b` stands beside an entry `a`.
+#[test]
+fn names_may_have_dots(rt: HostRuntime) -> Result<(), Fail> {
+    let library = "[sbox.\"a.b\"]\ninputs = 1\noutputs = 1\nvalues = [1, 0]\n\
+        [sbox.a]\ninputs = 1\noutputs = 1\nvalues = [0, 1]\n[linear.\".a\"]\nrows = [\"11\"]\n[linear.\"a.b.\"]\nrows = [\"1\"]\n";
+    let bytes = with_library(&rt, library)?;
+    match read(rt.alloc(), &bytes) {
+        Ok(settings) => {
+            assert_eq!(rt; (settings.tables.len(), settings.linears.len()), (2, 2));
+            assert!(rt; settings.tables[0].name.bytes() == b"a".as_slice());
+            assert!(rt; settings.tables[1].name.bytes() == b"a.b".as_slice());
+            assert_eq!(rt; settings.tables[1].table.rows.as_slice(), [1, 0].as_slice());
+            assert!(rt; settings.linears[0].name.bytes() == b".a".as_slice());
+            assert!(rt; settings.linears[1].name.bytes() == b"a.b.".as_slice());
+            assert_eq!(rt; settings.linears[0].layer.width, 2);
+        }
+        Err(_) => assert!(rt; false, "refused"),
+    }
+    Ok(())
+}
+
 // The bytes of 5,000 S-boxes `s0`, `s1`, .. and as many layers `l0`, `l1`, ..
 fn ten_thousand_entries(rt: &HostRuntime) -> Result<Vec<u8>, Fail> {
     let mut bytes = with_library(rt, "")?;
@@ -329,6 +367,64 @@ fn many_entries(rt: HostRuntime) -> Result<(), Fail> {
     match read(rt.alloc(), &bytes) {
         Ok(_) => assert!(rt; false, "accepted"),
         Err(fault) => assert!(rt; key(&fault) == b"linear.s4999".as_slice()),
+    }
+    Ok(())
+}
+
+// The names of so many entries, with their numbers behind these letters.
+fn numbered(alloc: Global, front: &str, count: u32) -> Result<Vec<String>, AllocError> {
+    let mut names = Vec::new(alloc);
+    for i in 0..count {
+        names.push(format!(in alloc; "{front}{i}")?)?;
+    }
+    Ok(names)
+}
+
+// How many of these names are found among tables, each with the table of that name.
+fn count_tables(tables: &[NamedTable], names: &[String]) -> u32
+    requires { IsStrictlySortedBy (slice_cmp nat_cmp) (map (λ t. t.name) tables.now) }
+{
+    let mut count: u32 = 0;
+    for name in names {
+        match sbox_table::find_in_byte_order(tables, name.as_bytes()) {
+            Some(found) if found.name.bytes() == name.as_bytes() => count = count.saturating_add(1),
+            _ => (),
+        }
+    }
+    count
+}
+
+// The same among layers.
+fn count_layers(layers: &[NamedLinear], names: &[String]) -> u32
+    requires { IsStrictlySortedBy (slice_cmp nat_cmp) (map (λ l. l.name) layers.now) }
+{
+    let mut count: u32 = 0;
+    for name in names {
+        match find_in_byte_order(layers, name.as_bytes()) {
+            Some(found) if found.name.bytes() == name.as_bytes() => count = count.saturating_add(1),
+            _ => (),
+        }
+    }
+    count
+}
+
+// Each of 10,000 entries is found by its name, and names before, between and behind theirs are not.
+#[test]
+fn entries_are_found(rt: HostRuntime) -> Result<(), Fail> {
+    let alloc = rt.alloc();
+    let bytes = ten_thousand_entries(&rt)?;
+    let tables = numbered(alloc, "s", 6_000)?;
+    let layers = numbered(alloc, "l", 6_000)?;
+    match read(alloc, &bytes) {
+        Ok(settings) => {
+            let found = count_tables(&settings.tables, &tables);
+            let others = count_tables(&settings.tables, &layers);
+            assert_eq!(rt; (found, others), (5_000, 0));
+            let found = count_layers(&settings.linears, &layers);
+            let others = count_layers(&settings.linears, &tables);
+            assert_eq!(rt; (found, others), (5_000, 0));
+        }
+        Err(_) => assert!(rt; false, "refused"),
     }
     Ok(())
 }
