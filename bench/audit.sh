@@ -6,7 +6,7 @@ top=$(CDPATH='' cd -- "$(dirname -- "$0")/.." && pwd) && cd "$top" || exit 1
 work=$(mktemp -d) || exit 1
 trap 'rm -rf "$work"' EXIT
 ./impeccable >/dev/null 2>&1
-exec python3 - "$top/impeccable" "$work" <<'END'
+exec python3 - "$top/crates/impeccable_cli/out/impeccable_cli" "$work" <<'END'
 import os, subprocess, sys
 
 program, work = sys.argv[1:]

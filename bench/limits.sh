@@ -5,7 +5,7 @@ top=$(CDPATH='' cd -- "$(dirname -- "$0")/.." && pwd) && cd "$top" || exit 1
 work=$(mktemp -d) || exit 1
 trap 'rm -rf "$work"' EXIT
 ./impeccable >/dev/null 2>&1
-python3 - "$top/impeccable" "$work/netlist.blif" <<'END'
+python3 - "$top/crates/impeccable_cli/out/impeccable_cli" "$work/netlist.blif" <<'END'
 import subprocess, sys
 
 program, path = sys.argv[1:]
