@@ -7,13 +7,13 @@ ghost use Rattle.program_examples.specs.ProgramExamples.{audited_contents, demo_
 ghost use Rattle.netlist_spec.specs.Netlist.{cover_inputs};
 ghost use Rattle.netlist_spec.specs.ReadFaults.{too_many, unknown_statement};
 ghost use Rattle.netlist_spec.specs.SoundFaults.{bad_port, loop, no_such_model, reserved};
-ghost use Rattle.program_spec.specs.Commands.{audit, code, command_of, flat, guard, is_cycle, is_demo_size, sim};
+ghost use Rattle.program_spec.specs.Commands.{audit, campaign, code, command_of, demo, flat, guard, sim};
 ghost use Rattle.program_spec.specs.Verdict.{IsAccepted, IsDoneText, IsFoundText, IsVerdict};
 ghost use Rattle.guard_spec.specs.Codes.{detect, hamming_code};
 ghost use Rattle.program_spec.specs.Demo.{demo_settings};
 ghost use Rattle.netlist_spec.specs.Lines.{plain_lines};
 ghost use Rattle.stimulus_spec.specs.Stimulus.{bad_script, more_than_sixteen, no_such_cell, script_of, stimulus_of};
-ghost use Rattle.program_spec.specs.Printed.{IsFindingText, IsIndependentText, IsReport, IsRunText, report_text, run_text};
+ghost use Rattle.program_spec.specs.Printed.{IsFindingText, IsIndependentText, IsReport, IsRunText, demo_text, report_text, run_text, tally_text};
 ghost use Rattle.program_spec.specs.ErrorLines.{answer_line, done, error_line, found, no_memory, read_fault as failed_load, refusal_text, refused, usage, write_fault};
 ghost use Rattle.program_spec.specs.Refusals.{bad_layout, guard_too_large, out_of_order, too_small, unreadable, unsound};
 ghost use Rattle.program_spec.specs.Walk.{passes, refused as refuses};
@@ -54,6 +54,8 @@ pub fn small_scripts_are_read()
 pub fn small_lines_are_printed()
     ensures report { report_text weak_code 1 (true ∷ false ∷ []) ≡ codes "code 5 2\ndistance 1\nword 10\ndetects 0\ncorrects 0\n" }
     ensures run { run_text ([] ∷ (true ∷ false ∷ []) ∷ []) ≡ codes "-\n10\n" }
+    ensures tally { tally_text 21 (record { right = 30; alarmed = 12; decoded = 0; wrong = 0 }) ≡ codes "cells 21\nright 30\nalarmed 12\ndecoded 0\nwrong 0\n" }
+    ensures demo { demo_text 13 4 4724 ≡ codes "statements 13\nlatches 4\nplain 4724\n" }
     ensures refusal { error_line (refusal_text (unreadable (unknown_statement 2 (46 ∷ 255 ∷ [])))) ≡ codes "impeccable: B1 line 2 unknown statement .\\xff\n" }
     ensures ring { error_line (refusal_text (unsound (loop (codes "p" ∷ codes "q" ∷ [])))) ≡ codes "impeccable: E9 loop p q\n" }
 {}
@@ -71,8 +73,16 @@ pub fn small_words_are_commands()
     ensures few_of_two { command_of (codes "guard" ∷ codes "a" ∷ []) ≡ None }
     ensures few_of_three { command_of (codes "sim" ∷ codes "a" ∷ codes "b" ∷ []) ≡ None }
     ensures other { command_of (codes "flatten" ∷ codes "a" ∷ []) ≡ None }
-    ensures cycle { (is_cycle (codes "x") ≡ false) × (is_cycle (codes "000042") ≡ true) × (is_cycle (codes "0000042") ≡ false) }
-    ensures sizes { (is_demo_size (codes "0") ≡ false) × (is_demo_size (codes "00") ≡ false) × (is_demo_size (codes "01") ≡ true) × (is_demo_size (codes "64") ≡ true) × (is_demo_size (codes "65") ≡ false) × (is_demo_size (codes "001") ≡ false) }
+    ensures campaign { command_of (codes "campaign" ∷ codes "a" ∷ codes "b" ∷ codes "c" ∷ codes "3" ∷ []) ≡ Some (campaign (codes "a") (codes "b") (codes "c") 3) }
+    ensures six_digits { command_of (codes "campaign" ∷ codes "a" ∷ codes "b" ∷ codes "c" ∷ codes "000042" ∷ []) ≡ Some (campaign (codes "a") (codes "b") (codes "c") 42) }
+    ensures seven_digits { command_of (codes "campaign" ∷ codes "a" ∷ codes "b" ∷ codes "c" ∷ codes "0000042" ∷ []) ≡ None }
+    ensures no_digit { command_of (codes "campaign" ∷ codes "a" ∷ codes "b" ∷ codes "c" ∷ codes "x" ∷ []) ≡ None }
+    ensures no_cycle { command_of (codes "campaign" ∷ codes "a" ∷ codes "b" ∷ codes "c" ∷ []) ≡ None }
+    ensures demo { command_of (codes "demo" ∷ codes "64" ∷ []) ≡ Some (demo 64) }
+    ensures leading_zero { command_of (codes "demo" ∷ codes "01" ∷ []) ≡ Some (demo 1) }
+    ensures no_size { (command_of (codes "demo" ∷ codes "0" ∷ []) ≡ None) × (command_of (codes "demo" ∷ codes "00" ∷ []) ≡ None) }
+    ensures large_size { command_of (codes "demo" ∷ codes "65" ∷ []) ≡ None }
+    ensures long_size { command_of (codes "demo" ∷ codes "001" ∷ []) ≡ None }
 {}
 
 /// The whole text of a simulation, of a report on a code and of two audits.

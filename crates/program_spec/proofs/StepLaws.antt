@@ -17,12 +17,12 @@ use Rattle.guard_spec.specs.Codes.{Code, IsDistance, needed_distance, rail_count
 use Rattle.guard_spec.specs.Words.{Settings, Layout, LayoutFault, layout_fault}
 use Rattle.guard_spec.specs.SettingsFile.{settings_of_bytes}
 use Rattle.stimulus_spec.specs.Stimulus.{stimulus_of, script_of}
-use Rattle.program_spec.specs.Commands.{Command, flat, code, guard, sim, audit}
+use Rattle.program_spec.specs.Commands.{Command, flat, code, guard, sim, audit, campaign, demo}
 use Rattle.program_spec.specs.Printed.{IsIndependentText, IsFindingText}
 use Rattle.program_spec.specs.Refusals.{Refusal, unreadable, bad_settings, too_small, unsound, bad_layout, out_of_order, bad_stimulus, bad_script_line}
 use Rattle.program_spec.specs.Walk.{Contents, Verdict, refused, passes, IsTest, HasTests, Walk, end}
 use Rattle.program_spec.specs.Steps.{IsToldOf, Nothing, gives, reading, soundness, strength, main_of, words_of, smallness, order_of, script_in, stimulus_in}
-use Rattle.program_spec.specs.Verdict.{IsTextOfFile, guard_steps, load_ordered, run_walk, walk_of, IsVerdict, IsDoneText, IsFoundText}
+use Rattle.program_spec.specs.Verdict.{IsTextOfFile, guard_steps, load_ordered, run_walk, stimulus_walk, walk_of, IsVerdict, IsDoneText, IsFoundText}
 use Rattle.program_spec.proofs.FindingLaws.{nothing_found}
 use Rattle.program_spec.proofs.OneLayout.{one_layout}
 use Rattle.program_spec.proofs.WalkLaws.{one_verdict}
@@ -133,14 +133,14 @@ smallness_test file s m l =
 
 -- ---- the tests of each command
 
--- those of a guard behind its settings
-guard_tests : (s : Settings) (netlist : List ℕ) → HasTests (guard_steps s netlist (λ file s m l. end))
-guard_tests s netlist = (
+-- those of a guard behind its settings, before others
+guard_tests : (s : Settings) (netlist : List ℕ) (next : File → Settings → Model → Layout → Walk) → ((file : File) (m : Model) (l : Layout) → HasTests (next file s m l)) → HasTests (guard_steps s netlist next)
+guard_tests s netlist next rest = (
   strength_test s,
   λ strong is. λ bytes short. (
     reading_test bytes,
     λ file reads.
-        (soundness_test file s.library, λ sound holds. (main_test file, λ m main. (words_test m s, λ l fits. (smallness_test file s m l, λ small few. tt)))),
+        (soundness_test file s.library, λ sound holds. (main_test file, λ m main. (words_test m s, λ l fits. (smallness_test file s m l, λ small few. rest file m l)))),
   ),
 )
 
@@ -151,11 +151,16 @@ ordered_tests netlist next rest = λ bytes short. (reading_test bytes, λ file r
 pub has_tests : (command : Command) → HasTests (walk_of command)
 has_tests (flat netlist) = λ bytes short. (reading_test bytes, λ file reads. (soundness_test file empty_library, λ sound is. tt))
 has_tests (code settings) = λ text short. (gives_test _ _ (settings_of_bytes text) bad_settings, λ s is. tt)
-has_tests (guard settings netlist) = λ text short. (gives_test _ _ (settings_of_bytes text) bad_settings, λ s is. guard_tests s netlist)
+has_tests (guard settings netlist) = λ text short. (gives_test _ _ (settings_of_bytes text) bad_settings, λ s is. guard_tests s netlist (λ file s m l. end) (λ file m l. tt))
 has_tests (sim netlist stimulus script) =
     ordered_tests netlist (λ file m. run_walk m stimulus script)
     (λ file m. λ text short. (stream_test m text, λ xs is. λ lines few. (script_test m lines, λ faults said. tt)))
 has_tests (audit netlist) = ordered_tests netlist (λ file m. end) (λ file m. tt)
+has_tests (campaign settings netlist stimulus cycle) = λ text short. (
+  gives_test _ _ (settings_of_bytes text) bad_settings,
+  λ s is. guard_tests s netlist (λ file s m l. stimulus_walk m stimulus) (λ file m l. λ rows few. (stream_test m rows, λ xs said. tt)),
+)
+has_tests (demo size) = tt
 
 -- ---- one kind of text
 

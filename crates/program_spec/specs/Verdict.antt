@@ -13,7 +13,8 @@ use Rattle.guard_spec.specs.Words.{Settings, Layout}
 use Rattle.guard_spec.specs.SettingsFile.{settings_of_bytes}
 use Rattle.program_spec.specs.Printed.{IsReport, IsRunText, IsIndependentText, IsFindingText}
 use Rattle.guard_text_spec.specs.GuardText.{IsGuardText}
-use Rattle.program_spec.specs.Commands.{Command, flat, code, guard, sim, audit, netlist_limit, other_limit}
+use Rattle.program_spec.specs.CampaignText.{IsCampaignText, IsDemoText}
+use Rattle.program_spec.specs.Commands.{Command, flat, code, guard, sim, audit, campaign, demo, netlist_limit, other_limit}
 use Rattle.program_spec.specs.Walk.{Contents, Verdict, passes, Walk, end, load, test, ComesTo}
 use Rattle.program_spec.specs.Steps.{reading, soundness, settings_in, strength, main_of, words_of, smallness, order_of, stimulus_in, script_in}
 
@@ -51,17 +52,18 @@ run_walk m stimulus script =
     load stimulus other_limit (λ text. test _ (stimulus_in m text) (λ xs.
     load script other_limit (λ lines. test _ (script_in m lines) (λ faults. end))))
 
+-- of `campaign`, behind its guard
+abbrev pub stimulus_walk : Model → List ℕ → Walk
+stimulus_walk m stimulus = load stimulus other_limit (λ text. test _ (stimulus_in m text) (λ xs. end))
+
 abbrev pub walk_of : Command → Walk
 walk_of (flat netlist) = load_netlist netlist (λ file. test _ (soundness file empty_library) (λ sound. end))
 walk_of (code settings) = load_settings settings (λ s. end)
 walk_of (guard settings netlist) = guard_walk settings netlist (λ file s m l. end)
 walk_of (sim netlist stimulus script) = load_ordered netlist (λ file m. run_walk m stimulus script)
 walk_of (audit netlist) = load_ordered netlist (λ file m. end)
-
--- of `campaign`, which begins as a guard in either mode is made
-abbrev pub campaign_walk : List ℕ → List ℕ → List ℕ → Walk
-campaign_walk settings netlist stimulus =
-    guard_walk settings netlist (λ file s m l. load stimulus other_limit (λ text. test _ (stimulus_in m text) (λ xs. end)))
+walk_of (campaign settings netlist stimulus cycle) = guard_walk settings netlist (λ file s m l. stimulus_walk m stimulus)
+walk_of (demo size) = end
 
 -- ---- verdicts
 
@@ -110,6 +112,10 @@ IsDoneText (sim netlist stimulus script) contents text =
     IsSomeAnd (contents netlist) (λ bytes. IsSomeAnd (contents stimulus) (λ rows. IsSomeAnd (contents script) (λ entries.
     IsSimText bytes rows entries text)))
 IsDoneText (audit netlist) contents text = IsSomeAnd (contents netlist) (λ bytes. IsTextOfFile IsIndependentText bytes text)
+IsDoneText (campaign settings netlist stimulus cycle) contents text =
+    IsSomeAnd (contents settings) (λ given. IsSomeAnd (contents netlist) (λ bytes. IsSomeAnd (contents stimulus) (λ rows.
+    IsCampaignText given bytes rows text cycle (λ t. IsSteady t))))
+IsDoneText (demo size) contents text = IsDemoText size text (λ t. IsSteady t)
 
 -- Whether a command can find something.
 abbrev pub MayFind : Command → Type 0

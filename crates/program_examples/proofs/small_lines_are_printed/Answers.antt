@@ -9,3 +9,11 @@ returns-clause-report c = refl
 pub returns-clause-refusal : goal.returns-clause-refusal
 unfolding digits
 returns-clause-refusal c = refl
+
+pub returns-clause-tally : goal.returns-clause-tally
+unfolding digits
+returns-clause-tally c = refl
+
+pub returns-clause-demo : goal.returns-clause-demo
+unfolding digits
+returns-clause-demo c = refl
