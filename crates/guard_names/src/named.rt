@@ -30,21 +30,22 @@ pub struct GuardNets {
 }
 
 /// The gate list of a guard with names: those of the source for the data inputs and the source's outputs, and names that
-/// say the word and the place, the rail, or else the number of a cell.
+/// say the word and the place, the rail, or else the number of a cell. Beside it the source's machine comes back.
 pub fn name_guard(
     alloc: Global,
     g: GuardNets,
     e: Elaborated,
     l: &Layout,
     c: &Code,
-) -> Result<Named, AllocError>
+) -> Result<(Named, Machine), AllocError>
     requires guard { IsToName g e c.now l.now }
     requires state { IsPartition (length e.latch_names) (data_places c.now) l.now.state }
     requires output { IsPartition (length e.output_names) (data_places c.now) l.now.output }
     requires cells { length g.latches.items + length g.net.gates ≤ 1000000 }
     requires rails { g.rails ≤ 17 }
-    ensures guard { IfOk result (λ n. (regions : List Region) → IsGuardNamed n (guarded_of g e.machine.inputs regions) e c.now l.now) }
-    ensures is_named { IfOk result (λ n. IsNamed n) }
+    ensures guard { IfOk result (λ r. (regions : List Region) → IsGuardNamed r.0 (guarded_of g e.machine.inputs regions) e c.now l.now) }
+    ensures is_named { IfOk result (λ r. IsNamed r.0) }
+    ensures machine { IfOk result (λ r. r.1 ≡ e.machine) }
 {
     let Elaborated {
         machine,
@@ -60,19 +61,13 @@ pub fn name_guard(
     } = e;
     let columns = u32::from(c.r());
     let labels = guard_labels(alloc, &g, &data_names, &output_names, l, columns)?;
-    let Machine {
-        net: _,
-        inputs,
-        latches: _,
-        outputs: _,
-    } = machine;
     let GuardNets {
         net,
         latches,
         outputs,
         rails: _,
     } = g;
-    Ok(Named {
+    let named = Named {
         model,
         names,
         unknown_inits,
@@ -83,8 +78,9 @@ pub fn name_guard(
         net,
         labels,
         latches,
-        data_inputs: inputs,
-    })
+        data_inputs: machine.inputs,
+    };
+    Ok((named, machine))
 }
 
 // The labels of data inputs, latches and gates.

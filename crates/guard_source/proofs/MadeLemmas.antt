@@ -1,18 +1,23 @@
--- What the builder and the naming of a guard ask of an elaborated source whose words are settled.
-use Rattle.std.proofs.Common.{◌≡◌, sym, ◌∙◌, subst, ℕ, ◌+◌, ◌≤◌, List, length, Some, arith}
+-- What the builder and the naming of a guard ask of an elaborated source whose words are settled, and what they make of it.
+use Rattle.std.proofs.Common.{◌≡◌, refl, sym, subst, ℕ, ◌≤◌, List, length, arith}
 use Rattle.netlist_spec.specs.GateRanges.{Region}
 use Rattle.netlist_spec.specs.Netlist.{File, Model, Name}
 use Rattle.netlist_spec.specs.Models.{latch_outputs}
 use Rattle.netlist_spec.specs.Elaborated.{Elaborated, IsElaborated}
-use Rattle.guard_spec.specs.Codes.{Code, Mode, data_places}
+use Rattle.netlist_spec.specs.Gates.{Machine}
+use Rattle.netlist_spec.specs.Written.{IsNamed, Named}
+use Rattle.guard_spec.specs.Codes.{Code, IsCode, IsDistance, Mode, data_places, needed_distance, rail_count}
+use Rattle.guard_spec.specs.Plain.{IsMachineSizeWith}
 use Rattle.guard_spec.specs.Regions.{Guarded}
 use Rattle.guard_spec.specs.Words.{IsLayoutOver, IsPartition, Layout, Settings}
+use Rattle.guard_laws.specs.Named.{IsGuardNamed}
 use Rattle.guard_laws.specs.Promised.{IsGuardOf}
 use Rattle.guard_names.specs.ToName.{IsToName, guarded_of}
 use Rattle.guard_names.specs.declared.named.GuardNets.{GuardNets}
 use Rattle.linear_layer.specs.declared.layer.NamedLinear.{NamedLinear}
 use Rattle.sbox_table.specs.declared.table.NamedTable.{NamedTable}
 use Rattle.source_nets.specs.Survey.{library_of}
+use Rattle.guard_source.specs.Made.{IsGuardMade}
 use Rattle.guard_source.specs.Settled.{IsSettled}
 
 -- the library of the tables and layers that were read
@@ -59,3 +64,33 @@ module _ (file : File) (s : Settings) (l : Layout) (settled : IsSettled file s l
 
   pub few_gates : length e.machine.net.gates ≤ 1000000
   few_gates = elaborated.form.few_gates
+
+  -- the guard, with the machine that the naming gives back
+  pub made : IsCode s.code → (d : ℕ) → IsDistance s.code d → needed_distance s.mode s.bound ≤ d → (gates : ℕ) → IsMachineSizeWith e.machine s.code s.mode s.bound (rail_count s.mode s.bound) l gates
+      → (g : Guarded) → IsGuardOf g e.machine s.code s.mode s.bound (rail_count s.mode s.bound) l → (n : Named) → IsNamed n → IsGuardNamed n g e s.code l → (machine : Machine) → machine ≡ e.machine → IsGuardMade file s n machine l
+  made is_code d is_distance wide gates is_gates g guard n named is_named machine same = record {
+    from = record {
+      m = settled.m;
+      is_main = settled.laid_out.taken.main;
+      e = e;
+      elaborated = elaborated;
+      is_code = is_code;
+      d = d;
+      is_distance = is_distance;
+      wide = wide;
+      l = l;
+      is_layout = settled.laid_out.is_layout;
+      size = settled.n;
+      is_size = settled.is_plain;
+      gates = gates;
+      is_gates = is_gates;
+      g = g;
+      guard = guard;
+      named = named;
+      is_named = is_named;
+    };
+    machine_is = sym same;
+    layout_is = refl;
+    no_fault = settled.laid_out.no_fault;
+    words = subst (λ (x : Machine). IsPartition (length x.outputs) (data_places s.code) l.output) (sym same) output;
+  }

@@ -8,7 +8,7 @@ use Rattle.netlist_spec.specs.Covers.{Library}
 use Rattle.netlist_spec.specs.Models.{Latch, latches_of, latch_outputs, main_model, output_nets}
 use Rattle.netlist_spec.specs.Sound.{HasOneDriverEach, IsSound}
 use Rattle.netlist_spec.specs.SoundFaults.{SoundFault, IsRefusedWith}
-use Rattle.guard_spec.specs.Codes.{Code, data_places}
+use Rattle.guard_spec.specs.Codes.{data_places}
 use Rattle.guard_spec.specs.Plain.{IsPlain}
 use Rattle.guard_spec.specs.Words.{IsLayout, IsPartition, Layout, LayoutFault, Settings, layout_fault}
 use Rattle.source_laws.proofs.Drivers.{drives_once}
@@ -16,7 +16,7 @@ use Rattle.source_laws.proofs.SomeCycle.{few_latches}
 use Rattle.source_laws.proofs.SomeValuation.{once_distinct}
 use Rattle.encode_state.specs.Faults.{IsFault}
 use Rattle.plain_size.specs.Sizes.{IsMainPlain, IsPartitioned}
-use Rattle.guard_source.specs.Accepted.{GuardRefusal, IsLaidOut, IsRefusedGuard, IsTaken, bad_layout, guard_too_large, unsound}
+use Rattle.guard_source.specs.Accepted.{IsLaidOut, IsRefusedGuard, IsTaken, bad_layout, guard_too_large, unsound}
 use Rattle.guard_source.specs.Settled.{IsSettled}
 
 pub refused_unsound : (file : File) (s : Settings) (library : Library) → library ≡ s.library → (told : Option SoundFault) → IfSome told (IsRefusedWith file library) → IfSome (option_map (λ f. unsound f) told) (IsRefusedGuard file s)

@@ -6,4 +6,4 @@ mod gates;
 mod source;
 
 pub use fault::GuardFault;
-pub use source::guard_source;
+pub use source::{SourceGuard, guard_source};

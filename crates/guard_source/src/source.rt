@@ -14,6 +14,7 @@ ghost use Rattle.blif_read.specs.View.{file_of};
 ghost use Rattle.source_check.specs.Checked.{IsChecked};
 ghost use Rattle.guard_source.specs.Accepted.{IsRefusedGuard, IsSmall};
 ghost use Rattle.guard_source.specs.Faults.{refusal_of};
+ghost use Rattle.guard_source.specs.Made.{IsGuardMade};
 ghost use Rattle.guard_source.specs.Settled.{IsSettled};
 
 use crate::GuardFault;
@@ -22,6 +23,7 @@ use blif_read::File;
 use elaborate::elaborate_checked;
 use encode_state::layout_of;
 use encode_state::types::Layout;
+use gate_net::Machine;
 use guard_laws::machines_cost_no_more;
 use guard_names::{name_guard, steps_make_a_guard};
 use named_netlist::Named;
@@ -31,23 +33,31 @@ use size_laws::machines_have_one_size;
 use source_check::{Checked, check};
 use std::alloc::{AllocError, Global};
 
-/// The gate list of a guard of a source, with names, or the first refusal of the source with its settings. The code of
-/// the settings is strong enough.
-pub fn guard_source(alloc: Global, file: File, s: &Settings) -> Result<Named, GuardFault>
+/// A guard of a source: its gate list with names, the machine that the source is elaborated to, and the words.
+#[derive(Drop)]
+pub struct SourceGuard {
+    pub named: Named,
+    pub machine: Machine,
+    pub layout: Layout,
+}
+
+/// The guard of a source, or the first refusal of the source with its settings. The code of the settings is strong enough.
+pub fn guard_source(alloc: Global, file: File, s: &Settings) -> Result<SourceGuard, GuardFault>
     requires ids { All HasIds file.models.items }
     requires is_file { IsFile (file_of file) }
     requires strong { (d : ℕ) × IsDistance s.now.code d × (needed_distance s.now.mode s.now.bound ≤ d) }
     ensures small { OnOk result (IsSmall (file_of file) s.now) }
     // The text that it is written as is one of a guard of the source by these settings.
-    ensures guard { IfOk result (λ n. (settings netlist : List ℕ)
+    ensures guard { IfOk result (λ g. (settings netlist : List ℕ)
         → settings_of_bytes settings ≡ Ok s.now → Reads netlist (file_of file)
-        → IsGuardText settings netlist (text_of n.unknown_inits (written_file n)) (λ t. IsSteady t)) }
+        → IsGuardText settings netlist (text_of g.named.unknown_inits (written_file g.named)) (λ t. IsSteady t)) }
+    ensures made { IfOk result (λ g. IsGuardMade (file_of file) s.now g.named g.machine g.layout) }
     ensures refused { IfErr result (λ fault. IfSome (refusal_of fault) (IsRefusedGuard (file_of file) s.now)) }
 {
     let checked = check(alloc, &file, &s.tables, &s.linears)?;
     let l = settle_words(alloc, &file, &checked, s)?;
-    let n = make(alloc, file, &checked, s, &l)?;
-    Ok(n)
+    let g = make(alloc, file, &checked, s, l)?;
+    Ok(g)
 }
 
 // The words that the settings ask for, where they fit and the plain size of the guard is at most 1,000,000.
@@ -71,28 +81,33 @@ fn settle_words(
     }
 }
 
-// The gate list of the guard, with names.
+// The guard, over these words.
 fn make(
     alloc: Global,
     file: File,
     checked: &Checked,
     s: &Settings,
-    l: &Layout,
-) -> Result<Named, AllocError>
+    layout: Layout,
+) -> Result<SourceGuard, AllocError>
     requires ids { All HasIds file.models.items }
     requires is_file { IsFile (file_of file) }
     requires strong { (d : ℕ) × IsDistance s.now.code d × (needed_distance s.now.mode s.now.bound ≤ d) }
     requires checked { IsChecked (file_of file) s.now.library checked.now }
-    requires settled { IsSettled (file_of file) s.now l.now }
-    ensures { IfOk result (λ n. (settings netlist : List ℕ)
+    requires settled { IsSettled (file_of file) s.now layout }
+    ensures guard { IfOk result (λ g. (settings netlist : List ℕ)
         → settings_of_bytes settings ≡ Ok s.now → Reads netlist (file_of file)
-        → IsGuardText settings netlist (text_of n.unknown_inits (written_file n)) (λ t. IsSteady t)) }
+        → IsGuardText settings netlist (text_of g.named.unknown_inits (written_file g.named)) (λ t. IsSteady t)) }
+    ensures made { IfOk result (λ g. IsGuardMade (file_of file) s.now g.named g.machine g.layout) }
 {
     machines_have_one_size();
     machines_cost_no_more();
     steps_make_a_guard();
     let e = elaborate_checked(alloc, file, &s.tables, &s.linears, checked)?;
-    let g = build_for(alloc, &e.machine, l, s)?;
-    let n = name_guard(alloc, g, e, l, &s.code)?;
-    Ok(n)
+    let nets = build_for(alloc, &e.machine, &layout, s)?;
+    let (named, machine) = name_guard(alloc, nets, e, &layout, &s.code)?;
+    Ok(SourceGuard {
+        named,
+        machine,
+        layout,
+    })
 }

@@ -16,8 +16,8 @@ returns-clause-guard c =
     (finished c.e.inside c.args.g c.args.c.now c.r.ensures.valid c.args.l.now c.e.invariant.form c.args.e c.e.view_is c.requires.state c.requires.output c.requires.guard c.requires.cells c.requires.rails c.in_ok-labels.labels.items c.deref.result.now c.deref-2.result.now _
     (machine_of c.machine.inside.net c.machine.inside.inputs c.machine.inside.latches.items c.machine.inside.outputs.items) c.in_ok-labels.ensures c.deref.ensures.value c.deref-2.ensures.value (c.from-columns.ensures ∙ c.r.ensures.columns) c.machine.view_is).1
 
-pub invariant_of-result : goal.invariant_of-result
-invariant_of-result c =
+pub invariant_of-named : goal.invariant_of-named
+invariant_of-named c =
     record {
       inputs = c.e.invariant.input_ports;
       clocks = c.e.invariant.clock_ports;
