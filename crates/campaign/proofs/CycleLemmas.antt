@@ -84,3 +84,9 @@ widen p n (x ∷ xs) h all = (omega (arith, h, all.0), widen p n xs h all.1)
 
 pub next_place : (first r p i n : ℕ) → first ≡ p + i * n → r ≡ n → first + r ≡ p + (i + 1) * n
 next_place first r p i n e f = rw (add-one, suc-mul) (omega (arith, e, f))
+
+pub same_bits : (y z : Bits) → pointwise beq y z ≡ true → y ≡ z
+same_bits [] [] h = refl
+same_bits [] (b ∷ z) h = absurd (false≢true h)
+same_bits (b ∷ y) [] h = absurd (false≢true h)
+same_bits (b ∷ y) (d ∷ z) h = grind (arith, same_bits y z)

@@ -1,8 +1,9 @@
 -- The outcome of a run with one fault, and the counts of the two faults of a cell.
-use Rattle.std.proofs.Common.{◌≡◌, refl, sym, ◌∙◌, ap, ap₂, subst, ℕ, zero, suc, ◌+◌, ◌*◌, ◌<◌, ◌≤◌, List, [], ◌∷◌, ◌++◌, length, take, drop, get_or, Bool, true, false, cond, ◌⊎◌, inl, inr, Some, ◌==◌, eqb-true, eq-eqb, arith, append-nil, length-drop, take-append-drop}
+use Rattle.std.proofs.Common.{◌≡◌, refl, sym, ◌∙◌, ap, ap₂, subst, ℕ, zero, suc, ◌+◌, ◌*◌, ◌<◌, ◌≤◌, List, [], ◌∷◌, ◌++◌, length, take, drop, get_or, Bool, true, false, cond, ◌⊎◌, inl, inr, Some, ◌==◌, eqb-true, eq-eqb, arith, length-drop, take-append-drop}
 use Rattle.std.specs.Prelude.{◌-◌}
 use Rattle.std.specs.List.{AllByRecursion, AllZip}
-use Rattle.std.proofs.lemmas.List.{take_more, length-take-le}
+use Rattle.std.proofs.lemmas.List.{take_more, length-take-le, drop-drop, drop_all}
+use Rattle.std.proofs.lemmas.List.Elements.{All-contains}
 use Rattle.std.proofs.lemmas.Grind.{flat_map-append}
 use Rattle.std.proofs.Math.Seq.{take-length}
 use Rattle.netlist_spec.specs.Netlist.{Name, Model, File}
@@ -36,7 +37,8 @@ use Rattle.campaign.specs.declared.tally.Tally.{Tally as Counts}
 use Rattle.campaign.specs.declared.task.Task.{Task}
 use Rattle.campaign.specs.Views.{seen_of, outcome_in, tally_in}
 use Rattle.campaign.specs.Runs.{AreFrom, RunTo, RunsOn, seen_in, wanted_rows, IsReady}
-use Rattle.campaign.specs.Sorted.{CountsCell, CountsCells, IsBegun, IsSortedIn, Sorts, Stops, Tallied, fault_in}
+use Rattle.campaign.specs.Rests.{GoesOn, IsMeeting}
+use Rattle.campaign.specs.Sorted.{CountsCell, CountsCells, IsBegun, IsMet, IsOver, IsSortedIn, Sorts, Stops, Tallied, fault_in}
 use Rattle.campaign.proofs.RunLemmas.{LastSeen, count_rows, still}
 
 abbrev pub ByParts : Type 0
@@ -72,12 +74,12 @@ module _ (task : Task) where
   abbrev ys : List Bits
   ys = wanted_rows task
 
-  -- the whole run in three parts, of which the last has no cycle
-  early_fault : ByParts → LastSeen → (g : File) (ordered : IsOrdered g) (fork : Fork) (fault : Fault) (shown : List Bits) (met : Bits) → length ys ≡ length xs → fork.cycle ≡ fault.cycle → fault.cycle < length xs
+  -- the whole run in three parts, of which the last is of a run without faults
+  met_fault : ByParts → (g : File) (ordered : IsOrdered g) (fork : Fork) (fault : Fault) (n : ℕ) (shown : List Bits) (met : Bits) (rest : Seen) → length ys ≡ length xs → fork.cycle ≡ fault.cycle → 1 ≤ n → fork.cycle + n ≤ length xs
       → IsBegun task ordered.model fault.cycle fork
-      → RunTo ordered.model (fault ∷ []) fork.cycle fork.stored.now (take (length xs - fork.cycle) (drop fork.cycle xs)) shown met
-      → IsSortedIn task g fault (outcome_seen (mode_in task.mode) (then_seen (seen_of fork.before) (seen_in task (take (length xs - fork.cycle) (drop fork.cycle ys)) shown)))
-  early_fault by_parts last g ordered fork fault shown met rows at within begun r =
+      → RunTo ordered.model (fault ∷ []) fork.cycle fork.stored.now (take n (drop fork.cycle xs)) shown met → GoesOn task ordered.model (fork.cycle + n) met rest
+      → IsSortedIn task g fault (outcome_seen (mode_in task.mode) (then_seen (then_seen (seen_of fork.before) (seen_in task (take n (drop fork.cycle ys)) shown)) rest))
+  met_fault by_parts g ordered fork fault n shown met rest rows at some within begun r goes_on =
       let m = ordered.model in
       let k = fork.cycle in
       let code = task.code.now in
@@ -87,16 +89,16 @@ module _ (task : Task) where
       let mode = mode_in task.mode in
       let front : length (take k xs) ≡ k = length-take-le k xs (omega arith) in
       let front_y : length (take k ys) ≡ k = length-take-le k ys (omega arith) in
-      let back : length (drop k xs) ≡ length xs - k = length-drop k xs in
-      let back_y : length (drop k ys) ≡ length ys - k = length-drop k ys in
-      let all_x : take (length xs - k) (drop k xs) ≡ drop k xs = ap (λ (n : ℕ). take n (drop k xs)) (sym back) ∙ take-length (drop k xs) in
-      let all_y : take (length xs - k) (drop k ys) ≡ drop k ys = ap (λ (n : ℕ). take n (drop k ys)) (let e : length xs - k ≡ length (drop k ys) = omega arith in e) ∙ take-length (drop k ys) in
-      let whole_x : take k xs ++ (drop k xs ++ []) ≡ xs = ap (λ (b : Stream). take k xs ++ b) (append-nil (drop k xs)) ∙ take-append-drop k xs in
-      let whole_y : take k ys ++ (drop k ys ++ []) ≡ ys = ap (λ (b : List Bits). take k ys ++ b) (append-nil (drop k ys)) ∙ take-append-drop k ys in
-      let middle : FaultyRuns m (fault ∷ []) (length (take k xs)) fork.stored.now (drop k xs) (r.states ++ met ∷ []) shown =
-      subst (λ (n : ℕ). FaultyRuns m (fault ∷ []) n fork.stored.now (drop k xs) (r.states ++ met ∷ []) shown) (sym front)
-      (subst (λ (b : Stream). FaultyRuns m (fault ∷ []) k fork.stored.now b (r.states ++ met ∷ []) shown) all_x r.is_run) in
-      let three : IsRunInThree g m fault (take k xs) (drop k xs) [] begun.shown shown [] =
+      let from_x = length-drop k xs in
+      let from_y = length-drop k ys in
+      let between : length (take n (drop k xs)) ≡ n = length-take-le n (drop k xs) (omega arith) in
+      let between_y : length (take n (drop k ys)) ≡ n = length-take-le n (drop k ys) (omega arith) in
+      let back = length-drop (k + n) xs in
+      let back_y = length-drop (k + n) ys in
+      let place : k + n ≡ length (take k xs) + length (take n (drop k xs)) = omega arith in
+      let whole : (rows : List Bits) → take k rows ++ (take n (drop k rows) ++ drop (k + n) rows) ≡ rows =
+      λ rows. ap (λ (bs : List Bits). take k rows ++ (take n (drop k rows) ++ bs)) (sym (drop-drop n k rows)) ∙ (ap (λ (bs : List Bits). take k rows ++ bs) (take-append-drop n (drop k rows)) ∙ take-append-drop k rows) in
+      let three : IsRunInThree g m fault (take k xs) (take n (drop k xs)) (drop (k + n) xs) begun.shown shown goes_on.shown =
       record {
         is_main = is_main g ordered;
         in_cycle = sym at ∙ sym front;
@@ -105,19 +107,39 @@ module _ (task : Task) where
         now = fork.stored.now;
         faulty = r.states;
         met = met;
-        rest = met ∷ [];
+        rest = goes_on.run.states ++ goes_on.last ∷ [];
         first = begun.run.is_run;
-        middle = middle;
-        last = refl;
+        middle = subst (λ (c : ℕ). FaultyRuns m (fault ∷ []) c fork.stored.now (take n (drop k xs)) (r.states ++ met ∷ []) shown) (sym front) r.is_run;
+        last = subst (λ (c : ℕ). FaultyRuns m [] c met (drop (k + n) xs) (goes_on.run.states ++ goes_on.last ∷ []) goes_on.shown) place goes_on.run.is_run;
       } in
-      let sorted = by_parts g m code l p mode t fault (take k xs) (drop k xs) [] (take k ys) begun.shown (drop k ys) shown [] [] three (front_y ∙ sym front) (let e : length (drop k ys) ≡ length (drop k xs) = omega arith in e) refl in
-      let a = seen code l p t (take k ys) begun.shown in
-      let b' = seen code l p t (drop k ys) shown in
-      let same : outcome_seen mode (then_seen (then_seen a b') nothing_seen) ≡ outcome_seen mode (then_seen (seen_of fork.before) (seen_in task (take (length xs - k) (drop k ys)) shown)) =
-      ap (outcome_seen mode) (last (then_seen a b') ∙ ap₂ then_seen (sym begun.is_seen) (ap (λ (bs : List Bits). seen_in task bs shown) (sym all_y))) in
-      subst (λ (o : Outcome). IsSortedIn task g fault o) same
-      (subst (λ (b : Stream). IsSorted g code l p mode t b ys fault (outcome_seen mode (then_seen (then_seen a b') nothing_seen))) whole_x
-      (subst (λ (b : List Bits). IsSorted g code l p mode t (take k xs ++ (drop k xs ++ [])) b fault (outcome_seen mode (then_seen (then_seen a b') nothing_seen))) whole_y sorted))
+      let sorted = by_parts g m code l p mode t fault (take k xs) (take n (drop k xs)) (drop (k + n) xs) (take k ys) begun.shown (take n (drop k ys)) shown (drop (k + n) ys) goes_on.shown three (front_y ∙ sym front) (between_y ∙ sym between)
+      (let e : length (drop (k + n) ys) ≡ length (drop (k + n) xs) = omega arith in e) in
+      let seen_now = then_seen (seen_in task (take k ys) begun.shown) (seen_in task (take n (drop k ys)) shown) in
+      let o = outcome_seen mode (then_seen seen_now (seen_in task (drop (k + n) ys) goes_on.shown)) in
+      let same : o ≡ outcome_seen mode (then_seen (then_seen (seen_of fork.before) (seen_in task (take n (drop k ys)) shown)) rest) =
+      ap (outcome_seen mode) (ap₂ then_seen (ap (λ (a : Seen). then_seen a (seen_in task (take n (drop k ys)) shown)) (sym begun.is_seen)) (sym goes_on.is_seen)) in
+      subst (λ (q : Outcome). IsSortedIn task g fault q) same
+      (subst (λ (bs : Stream). IsSorted g code l p mode t bs ys fault o) (whole xs)
+      (subst (λ (bs : List Bits). IsSorted g code l p mode t (take k xs ++ (take n (drop k xs) ++ drop (k + n) xs)) bs fault o) (whole ys) sorted))
+
+  -- no cycle is left
+  at_the_end : (m : Model) (cycle : ℕ) (stored : Bits) → length xs ≤ cycle → length ys ≤ cycle → GoesOn task m cycle stored nothing_seen
+  at_the_end m cycle stored end end_y =
+      record {
+        shown = [];
+        last = stored;
+        run = record { states = []; is_run = subst (λ (bs : Stream). FaultyRuns m [] cycle stored bs (stored ∷ []) []) (sym (drop_all cycle xs end)) refl };
+        is_seen = ap (λ (bs : List Bits). seen_in task bs []) (sym (drop_all cycle ys end_y));
+      }
+
+  early_fault : ByParts → LastSeen → (g : File) (ordered : IsOrdered g) (fork : Fork) (fault : Fault) (shown : List Bits) (met : Bits) → length ys ≡ length xs → fork.cycle ≡ fault.cycle → fault.cycle < length xs
+      → IsBegun task ordered.model fault.cycle fork
+      → RunTo ordered.model (fault ∷ []) fork.cycle fork.stored.now (take (length xs - fork.cycle) (drop fork.cycle xs)) shown met
+      → IsSortedIn task g fault (outcome_seen (mode_in task.mode) (then_seen (seen_of fork.before) (seen_in task (take (length xs - fork.cycle) (drop fork.cycle ys)) shown)))
+  early_fault by_parts last g ordered fork fault shown met rows at within begun r =
+      let count = length xs - fork.cycle in
+      subst (λ (a : Seen). IsSortedIn task g fault (outcome_seen (mode_in task.mode) a)) (last (then_seen (seen_of fork.before) (seen_in task (take count (drop fork.cycle ys)) shown)))
+      (met_fault by_parts g ordered fork fault count shown met nothing_seen rows at (omega arith) (omega arith) begun r (at_the_end ordered.model (fork.cycle + count) met (omega arith) (omega arith)))
 
   late_fault : Late → LastSeen → (g : File) (ordered : IsOrdered g) (fork : Fork) (fault : Fault) (shown : List Bits) → length ys ≡ length xs → fork.cycle ≡ length xs → length xs ≤ fault.cycle
       → IsBegun task ordered.model fault.cycle fork
@@ -214,13 +236,44 @@ settled_fault law task g ordered fork fault n shown met o wide rows at fits begu
     (subst (λ (c : ℕ). FaultyRuns m (fault ∷ []) c (at_cycle free.0 c) (take n (drop c xs)) (r.states ++ met ∷ []) shown) at run)
     (subst (λ (c : ℕ). IsSettled (mode_in task.mode) (then_seen (seen_in task (take c ys) (take c free.1)) (seen_in task (take n (drop c ys)) shown)) o) at settled)
 
+-- a run that has met the run without faults
+met_sorted : ByParts → (task : Task) (old restored new : Runner) (fork : Fork) (fault : CellFault) (count : ℕ) (part whole : SeenSoFar) (o : FoundOutcome) → restored.sim ≡ record old.sim { stored = fork.stored.now } → fork.cycle + count ≤ length task.stimulus.now.cycles
+    → RunsOn task restored fork.cycle count (fault ∷ []) part new → IsMet fork count part new.sim.stored whole → outcome_in o ≡ outcome_seen (mode_in task.mode) (seen_of whole) → Sorts task old fork fault o new
+met_sorted by_parts task old restored new fork fault count part whole o restores fits ran is_met is_o =
+    record {
+      sorted = λ g simulates cycle begun. at_place g simulates cycle begun begun.at;
+      netlist = ran.netlist ∙ ap (λ (s : Simulated). record s { stored = new.sim.stored }) restores;
+      ready = ran.ready;
+    }
+  where
+    at_place : (g : File) (simulates : Simulates g old.sim) (cycle : ℕ) → IsBegun task simulates.ordered.model cycle fork
+        → ((fork.cycle ≡ cycle) × (cycle < length task.stimulus.now.cycles)) ⊎ ((fork.cycle ≡ length task.stimulus.now.cycles) × (length task.stimulus.now.cycles ≤ cycle)) → IsSortedIn task g (fault_in cycle old.sim.cells fault) (outcome_in o)
+    at_place g simulates cycle begun (inr at) = let some = is_met.some in let place = at.0 in absurd (omega arith)
+    at_place g simulates cycle begun (inl at) =
+        let m = simulates.ordered.model in
+        let kept = is_met.kept in
+        let stored : restored.sim.stored ≡ fork.stored.now = ap (λ (s : Simulated). s.stored) restores in
+        let same : restored.sim ≡ record old.sim { stored = restored.sim.stored } = restores ∙ ap (λ (b : Bits). record old.sim { stored = b }) (sym stored) in
+        let cells : restored.sim.cells ≡ old.sim.cells = ap (λ (s : Simulated). s.cells) restores in
+        let now = still g old.sim restored.sim same simulates in
+        let named = fault_in cycle old.sim.cells fault in
+        let r = ran.run g now (named ∷ []) (subst (λ (names : List Name). AreFrom fork.cycle names (fault ∷ []) (named ∷ [])) (sym cells) (forced_here old.sim.cells fault cycle fork.cycle at.0)) in
+        let meeting : GoesOn task m kept.meeting.cycle kept.meeting.stored.items (seen_of kept.meeting.rest) = All-contains (IsMeeting task m) fork.meetings.now kept.meeting begun.meetings kept.stands in
+        let goes_on : GoesOn task m (fork.cycle + count) new.sim.stored (seen_of is_met.rest) =
+        subst (λ (n : ℕ). GoesOn task m n new.sim.stored (seen_of is_met.rest)) kept.at
+        (subst (λ (bs : Bits). GoesOn task m kept.meeting.cycle bs (seen_of is_met.rest)) kept.same (subst (λ (s : SeenSoFar). GoesOn task m kept.meeting.cycle kept.meeting.stored.items (seen_of s)) kept.is_rest meeting)) in
+        let is_seen : then_seen (then_seen (seen_of fork.before) (seen_in task (take count (drop fork.cycle (wanted_rows task))) ran.shown)) (seen_of is_met.rest) ≡ seen_of whole =
+        ap (λ (a : Seen). then_seen (then_seen (seen_of fork.before) a) (seen_of is_met.rest)) (sym ran.is_seen) ∙ sym is_met.is_whole in
+        subst (λ (q : Outcome). IsSortedIn task g named q) (ap (outcome_seen (mode_in task.mode)) is_seen ∙ sym is_o)
+        (met_fault task by_parts g simulates.ordered fork named count ran.shown new.sim.stored (seen_of is_met.rest) (count_rows task new ran.ready) at.0 is_met.some fits begun
+        (subst (λ (b : Bits). RunTo m (named ∷ []) fork.cycle b (take count (drop fork.cycle task.stimulus.now.cycles)) ran.shown new.sim.stored) stored r) goes_on)
+
 pub stops_sorted : ByParts → Late → LastSeen → SettledSorted → (task : Task) (old restored new : Runner) (fork : Fork) (fault : CellFault) (whole : SeenSoFar) (o : FoundOutcome) → IsReady task old → restored.sim ≡ record old.sim { stored = fork.stored.now }
     → fork.cycle ≤ length task.stimulus.now.cycles → Stops task restored fork fault whole new → outcome_in o ≡ outcome_seen (mode_in task.mode) (seen_of whole) → Sorts task old fork fault o new
 stops_sorted by_parts late last law task old restored new fork fault whole o ready restores fits stops is_o = by stops.ends
   where
-    by : (stops.count ≡ length task.stimulus.now.cycles - fork.cycle) ⊎ IsSettled (mode_in task.mode) (seen_of whole) (outcome_seen (mode_in task.mode) (seen_of whole)) → Sorts task old fork fault o new
-    by (inl e) = sorts by_parts late last task old restored new fork fault stops.count stops.part whole o restores fits e stops.ran stops.is_whole is_o
-    by (inr h) =
+    settled : seen_of whole ≡ then_seen (seen_of fork.before) (seen_of stops.part) → IsSettled (mode_in task.mode) (seen_of whole) (outcome_seen (mode_in task.mode) (seen_of whole)) → Sorts task old fork fault o new
+    settled is_whole h =
         record {
           sorted = λ g simulates cycle begun. at_place g simulates cycle begun begun.at;
           netlist = stops.ran.netlist ∙ ap (λ (s : Simulated). record s { stored = new.sim.stored }) restores;
@@ -232,7 +285,7 @@ stops_sorted by_parts late last law task old restored new fork fault whole o rea
         at_place g simulates cycle begun (inr at) =
             let place = at.0 in
             let within = stops.fits in
-            (sorts by_parts late last task old restored new fork fault stops.count stops.part whole o restores fits (omega arith) stops.ran stops.is_whole is_o).sorted g simulates cycle begun
+            (sorts by_parts late last task old restored new fork fault stops.count stops.part whole o restores fits (omega arith) stops.ran is_whole is_o).sorted g simulates cycle begun
         at_place g simulates cycle begun (inl at) =
             let stored : restored.sim.stored ≡ fork.stored.now = ap (λ (s : Simulated). s.stored) restores in
             let kept : restored.sim ≡ record old.sim { stored = restored.sim.stored } = restores ∙ ap (λ (b : Bits). record old.sim { stored = b }) (sym stored) in
@@ -242,11 +295,19 @@ stops_sorted by_parts late last law task old restored new fork fault whole o rea
             let r = stops.ran.run g now (named ∷ []) (subst (λ (names : List Name). AreFrom fork.cycle names (fault ∷ []) (named ∷ [])) (sym cells) (forced_here old.sim.cells fault cycle fork.cycle at.0)) in
             let m = simulates.ordered.model in
             let wide : AllByRecursion (λ x. length (data_inputs m) ≡ length x) task.stimulus.now.cycles = subst (λ (names : List Name). AllByRecursion (λ x. length names ≡ length x) task.stimulus.now.cycles) simulates.model.inputs ready.wide in
-            let is_seen : seen_of whole ≡ then_seen (seen_of fork.before) (seen_in task (take stops.count (drop fork.cycle (wanted_rows task))) stops.ran.shown) = stops.is_whole ∙ ap (then_seen (seen_of fork.before)) stops.ran.is_seen in
+            let is_seen : seen_of whole ≡ then_seen (seen_of fork.before) (seen_in task (take stops.count (drop fork.cycle (wanted_rows task))) stops.ran.shown) = is_whole ∙ ap (then_seen (seen_of fork.before)) stops.ran.is_seen in
             subst (λ (q : Outcome). IsSortedIn task g named q) (sym is_o)
             (settled_fault law task g simulates.ordered fork named stops.count stops.ran.shown new.sim.stored (outcome_seen (mode_in task.mode) (seen_of whole)) wide (count_rows task new stops.ran.ready) at.0 stops.fits begun
             (subst (λ (b : Bits). RunTo m (named ∷ []) fork.cycle b (take stops.count (drop fork.cycle task.stimulus.now.cycles)) stops.ran.shown new.sim.stored) stored r)
             (subst (λ (a : Seen). IsSettled (mode_in task.mode) a (outcome_seen (mode_in task.mode) (seen_of whole))) is_seen h))
+
+    by : IsOver task fork stops.count stops.part whole ⊎ IsMet fork stops.count stops.part new.sim.stored whole → Sorts task old fork fault o new
+    by (inl over) = over_by over.ends
+      where
+        over_by : (stops.count ≡ length task.stimulus.now.cycles - fork.cycle) ⊎ IsSettled (mode_in task.mode) (seen_of whole) (outcome_seen (mode_in task.mode) (seen_of whole)) → Sorts task old fork fault o new
+        over_by (inl e) = sorts by_parts late last task old restored new fork fault stops.count stops.part whole o restores fits e stops.ran over.is_whole is_o
+        over_by (inr h) = settled over.is_whole h
+    by (inr is_met) = met_sorted by_parts task old restored new fork fault stops.count stops.part whole o restores stops.fits stops.ran is_met is_o
 
 -- ---- counts
 

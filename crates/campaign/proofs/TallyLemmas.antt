@@ -1,6 +1,6 @@
 -- The tally of all faults, from the free run up to their cycle and the counts behind it.
-use Rattle.std.proofs.Common.{◌≡◌, refl, sym, ◌∙◌, ap, subst, ℕ, zero, suc, ◌<◌, ◌≤◌, List, [], length, take, ◌⊎◌, inl, inr, min, arith, ◌∷◌}
-use Rattle.std.specs.Prelude.{◌-◌}
+use Rattle.std.proofs.Common.{◌≡◌, sym, ◌∙◌, ap, subst, ℕ, ◌<◌, ◌≤◌, List, [], length, take, ◌⊎◌, inl, inr, min, arith, ◌∷◌}
+use Rattle.std.specs.Prelude.{◌-◌, All}
 use Rattle.std.specs.List.{AllByRecursion, AllZip}
 use Rattle.std.proofs.Math.Nat.{eq-zero-or-pos}
 use Rattle.std.proofs.Math.Seq.{take-length}
@@ -20,8 +20,10 @@ use Rattle.campaign.specs.declared.sort.Fork.{Fork}
 use Rattle.campaign.specs.declared.tally.Tally.{Tally as Counts}
 use Rattle.campaign.specs.declared.task.Task.{Task}
 use Rattle.campaign.specs.Views.{tally_in}
-use Rattle.campaign.specs.Runs.{AreFrom, IsGuardShape, IsMade, IsReady, RunTo, RunsOn, Shows, wanted_rows}
+use Rattle.campaign.specs.Runs.{IsGuardShape, IsMade, IsReady, RunTo, RunsOn, Shows, wanted_rows}
+use Rattle.campaign.specs.Rests.{IsMeeting}
 use Rattle.campaign.specs.Sorted.{CountsCells, IsBegun, IsSortedIn}
+use Rattle.campaign.proofs.RestLemmas.{no_faults}
 
 turned : (n k : ℕ) → n ≡ k → (xs : Stream) → AllByRecursion (λ (x : Bits). length x ≡ k) xs → AllByRecursion (λ (x : Bits). n ≡ length x) xs
 turned n k e [] all = tt
@@ -53,10 +55,6 @@ made_ready f source task s rails made ordered shape inputs words outputs shows f
       each = subst (λ (n : ℕ). AllByRecursion (λ (y : Bits). length y ≡ n) (wanted_rows task)) (sym outputs) shows.each;
     }
 
-no_faults : (cells : List Name) → AreFrom 0 cells [] []
-no_faults cells zero = refl
-no_faults cells (suc i) = refl
-
 at_least : (first cycle n : ℕ) → first ≡ min cycle n → ((first ≡ cycle) × (cycle < n)) ⊎ ((first ≡ n) × (n ≤ cycle))
 at_least first cycle n e = by (eq-zero-or-pos (n - cycle))
   where
@@ -64,17 +62,18 @@ at_least first cycle n e = by (eq-zero-or-pos (n - cycle))
     by (inl h) = inr (omega (arith, e, h), omega (arith, h))
     by (inr h) = inl (omega (arith, e, h), omega (arith, h))
 
-pub begins : (f : File) (task : Task) (s mid : Runner) (fork : Fork) (cycle : ℕ) → (made : IsMade f s) → RunsOn task s 0 fork.cycle [] fork.before mid → fork.stored.now ≡ mid.sim.stored → fork.cycle ≡ min cycle (length task.stimulus.now.cycles)
+pub begins : (f : File) (task : Task) (s mid : Runner) (fork : Fork) (cycle : ℕ) → (made : IsMade f s) → RunsOn task s 0 fork.cycle [] fork.before mid → fork.stored.now ≡ mid.sim.stored → All (IsMeeting task made.simulates.ordered.model) fork.meetings.now → fork.cycle ≡ min cycle (length task.stimulus.now.cycles)
     → IsBegun task made.simulates.ordered.model cycle fork
-begins f task s mid fork cycle made ran is_stored at =
+begins f task s mid fork cycle made ran is_stored meetings at =
     let m = made.simulates.ordered.model in
-    let run = ran.run f made.simulates [] (no_faults s.sim.cells) in
+    let run = ran.run f made.simulates [] (no_faults s.sim.cells 0) in
     record {
       shown = ran.shown;
       long = ran.long;
       run = subst (λ (b : Bits). RunTo m [] 0 (init_bits m) (take fork.cycle task.stimulus.now.cycles) ran.shown b) (sym is_stored)
           (subst (λ (b : Bits). RunTo m [] 0 b (take fork.cycle task.stimulus.now.cycles) ran.shown mid.sim.stored) (made.starts ∙ made.simulates.model.inits) run);
       is_seen = ran.is_seen;
+      meetings = meetings;
       at = at_least fork.cycle cycle (length task.stimulus.now.cycles) at;
     }
 

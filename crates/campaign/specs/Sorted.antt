@@ -1,5 +1,5 @@
 -- Faults of one cycle, sorted and counted.
-use Rattle.std.specs.Prelude.{◌≡◌, ℕ, ◌+◌, ◌*◌, ◌-◌, ◌<◌, ◌≤◌, ◌⊎◌, List, [], length, take, slice_index_or, ◌∷◌}
+use Rattle.std.specs.Prelude.{◌≡◌, ℕ, ◌+◌, ◌*◌, ◌-◌, ◌<◌, ◌≤◌, ◌⊎◌, List, [], length, take, slice_index_or, ◌∷◌, All}
 use Rattle.std.specs.List.{AllZip}
 use Rattle.netlist_spec.specs.Netlist.{Name, Model, File}
 use Rattle.netlist_spec.specs.Models.{init_bits}
@@ -20,14 +20,17 @@ use Rattle.campaign.specs.declared.sort.Fork.{Fork}
 use Rattle.campaign.specs.declared.tally.Tally.{Tally as Counts}
 use Rattle.campaign.specs.declared.task.Task.{Task}
 use Rattle.campaign.specs.Views.{seen_of, outcome_in, tally_in}
+use Rattle.campaign.specs.Rests.{IsKept, IsMeeting}
 use Rattle.campaign.specs.Runs.{IsReady, RunTo, RunsOn, seen_in, wanted_rows}
 
--- The run without faults was run up to the cycle of the faults, or to its end where that comes first.
+-- The run without faults was run up to the cycle of the faults, or to its end where that comes first. What may be met is of
+-- runs without faults.
 pub record IsBegun (task : Task) (m : Model) (cycle : ℕ) (fork : Fork) : Type 0 where
   pub shown : List Bits
   pub long : length shown ≡ fork.cycle
   pub run : RunTo m [] 0 (init_bits m) (take fork.cycle task.stimulus.now.cycles) shown fork.stored.now
   pub is_seen : seen_of fork.before ≡ seen_in task (take fork.cycle (wanted_rows task)) shown
+  pub meetings : All (IsMeeting task m) fork.meetings.now
   pub at : ((fork.cycle ≡ cycle) × (cycle < length task.stimulus.now.cycles)) ⊎ ((fork.cycle ≡ length task.stimulus.now.cycles) × (length task.stimulus.now.cycles ≤ cycle))
 
 -- what is said of a fault in a tally of this task
@@ -38,14 +41,25 @@ IsSortedIn task g fault o = IsSorted g task.code.now task.layout.now task.output
 abbrev pub fault_in : ℕ → List Name → CellFault → Fault
 fault_in cycle cells fault = record { cycle = cycle; cell = slice_index_or cells fault.cell.0 []; bit = fault.value }
 
--- Cycles were run with this fault in the first of them, up to the end or until the outcome was settled.
+-- The run ended, or its outcome is settled.
+pub record IsOver (task : Task) (fork : Fork) (count : ℕ) (part whole : SeenSoFar) : Type 0 where
+  pub is_whole : seen_of whole ≡ then_seen (seen_of fork.before) (seen_of part)
+  pub ends : (count ≡ length task.stimulus.now.cycles - fork.cycle) ⊎ IsSettled (mode_in task.mode) (seen_of whole) (outcome_seen (mode_in task.mode) (seen_of whole))
+
+-- The run has met the run without faults, whose rest is seen too.
+pub record IsMet (fork : Fork) (count : ℕ) (part : SeenSoFar) (stored : Bits) (whole : SeenSoFar) : Type 0 where
+  pub some : 1 ≤ count
+  pub rest : SeenSoFar
+  pub kept : IsKept fork.meetings.now (fork.cycle + count) stored rest
+  pub is_whole : seen_of whole ≡ then_seen (then_seen (seen_of fork.before) (seen_of part)) (seen_of rest)
+
+-- Cycles were run with this fault in the first of them, until it was known what the whole run comes to.
 pub record Stops (task : Task) (old : Runner) (fork : Fork) (fault : CellFault) (whole : SeenSoFar) (new : Runner) : Type 0 where
   pub count : ℕ
   pub part : SeenSoFar
   pub fits : fork.cycle + count ≤ length task.stimulus.now.cycles
   pub ran : RunsOn task old fork.cycle count (fault ∷ []) part new
-  pub is_whole : seen_of whole ≡ then_seen (seen_of fork.before) (seen_of part)
-  pub ends : (count ≡ length task.stimulus.now.cycles - fork.cycle) ⊎ IsSettled (mode_in task.mode) (seen_of whole) (outcome_seen (mode_in task.mode) (seen_of whole))
+  pub ends : IsOver task fork count part whole ⊎ IsMet fork count part new.sim.stored whole
 
 -- The run with this fault was run, and has this outcome.
 pub record Sorts (task : Task) (old : Runner) (fork : Fork) (fault : CellFault) (o : FoundOutcome) (new : Runner) : Type 0 where

@@ -12,6 +12,7 @@ ghost use Rattle.settings.specs.Types.{mode_in};
 ghost use Rattle.campaign.specs.Runs.{IsGuardShape};
 ghost use Rattle.campaign.specs.Views.{tally_in};
 
+use crate::rest::meetings_behind;
 use crate::runner::{run_on, runner_of};
 use crate::sort::{Fork, count_cells};
 use crate::source::shown_rows;
@@ -60,12 +61,13 @@ pub fn single(
     };
     let first = cycle.min(stimulus.cycles());
     let before = run_on(&mut runner, &task, 0, first, &[]);
-    let mut stored = vec![in alloc; false; runner.sim.stored().len()]?;
-    stored.copy_from_slice(runner.sim.stored());
+    let stored = runner.sim.stored().to_vec(alloc)?;
+    let meetings = meetings_behind(alloc, &mut runner, &task, first)?;
     let fork = Fork {
         cycle: first,
         stored: &stored,
         before,
+        meetings: &meetings,
     };
     Ok(count_cells(&mut runner, &task, &fork))
 }

@@ -4,6 +4,7 @@
 mod all_faults;
 mod cycle;
 mod near;
+mod rest;
 mod runner;
 mod seen;
 mod sort;

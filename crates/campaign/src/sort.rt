@@ -5,6 +5,7 @@ ghost use Rattle.campaign.specs.Views.{tally_in};
 ghost use Rattle.campaign.specs.Runs.{IsReady};
 ghost use Rattle.campaign.specs.Sorted.{CountsCell, CountsCells, Sorts, Stops};
 
+use crate::rest::{Meeting, rest_from};
 use crate::runner::{Runner, faults_in, run_cycle};
 use crate::seen::{Outcome, Seen};
 use crate::tally::Tally;
@@ -15,23 +16,19 @@ use tally_laws::{
     tallies_add_up,
 };
 
-/// Where the runs with a fault leave the run without: the cycle, the bits that the latches have stored by then, and what is
-/// seen of the cycles before.
+/// Where the runs with a fault leave the run without: the cycle, the bits that the latches have stored by then, what is seen
+/// of the cycles before, and where they may meet it again.
 #[derive(Clone, Copy)]
 pub(crate) struct Fork<'a> {
     pub(crate) cycle: u32,
     pub(crate) stored: &'a [bool],
     pub(crate) before: Seen,
+    pub(crate) meetings: &'a [Meeting],
 }
 
-// Runs cycles with this fault in the first of them, until no later cycle can change the outcome. What is seen of the cycles
-// before is seen too.
-fn run_until_settled(
-    runner: &mut Runner,
-    task: &Task<'_>,
-    fork: &Fork<'_>,
-    fault: CellFault,
-) -> Seen
+// Runs cycles with this fault in the first of them, until no later cycle can change the outcome, or the stored bits are those
+// of the run without. What is seen of the cycles before, and of the rest of the run without, is seen too.
+fn run_until_known(runner: &mut Runner, task: &Task<'_>, fork: &Fork<'_>, fault: CellFault) -> Seen
     requires ready { IsReady task.now runner.old }
     requires cycle { fork.now.cycle ≤ length task.now.stimulus.now.cycles }
     requires cell { fault.cell.0 < length runner.old.sim.cells }
@@ -48,6 +45,10 @@ fn run_until_settled(
         }
         let here = run_cycle(runner, task, fork.cycle + i, faults_in(i, &faults));
         part = part.then(here);
+        let next = fork.cycle + i + 1;
+        if let Some(rest) = rest_from(fork.meetings, next, runner.sim.stored()) {
+            return fork.before.then(part).then(rest);
+        }
     }
     fork.before.then(part)
 }
@@ -65,7 +66,7 @@ fn outcome_under(runner: &mut Runner, task: &Task<'_>, fork: &Fork<'_>, fault: C
     settled_runs_are_sorted();
     outcomes_are_seen();
     runner.sim.restore(fork.stored);
-    run_until_settled(runner, task, fork, fault).outcome(task.mode)
+    run_until_known(runner, task, fork, fault).outcome(task.mode)
 }
 
 // Counts the two faults of a cell.

@@ -1,5 +1,7 @@
-//! Tests of `demo_design`, by its public call.
+//! Tests of `campaign` and `demo_design`, by their public calls.
 #![tactic(auto)]
 
 #[cfg(test)]
 mod designs;
+#[cfg(test)]
+mod tallies;

@@ -1,5 +1,5 @@
 use Rattle.std.proofs.Common.{◌≡◌, ◌∙◌, ℕ, List, length, sym, ap, subst, min, arith}
-use Rattle.std.specs.Prelude.{Bool, Vec}
+use Rattle.std.specs.Prelude.{All, Bool, Vec}
 use Rattle.std.specs.declared.alloc.Global.{Global}
 use Rattle.std.proofs.lemmas.List.{length-map}
 use Rattle.netlist_spec.specs.Gates.{Machine}
@@ -9,6 +9,7 @@ use Rattle.guard_spec.specs.Codes.{rail_count}
 use Rattle.settings.specs.Types.{mode_in}
 use Rattle.campaign.specs.declared.sort.Fork.{Fork}
 use Rattle.campaign.specs.declared.task.Task.{Task}
+use Rattle.campaign.specs.Rests.{IsMeeting}
 use Rattle.campaign.specs.Runs.{Shows}
 use Rattle.campaign.proofs.RunLemmas.{still}
 use Rattle.campaign.proofs.TallyLemmas.{begins, made_ready, whole_tally}
@@ -33,8 +34,13 @@ returns c =
     let shows : Shows source c.args.stimulus.now.cycles c.deref.result.now = subst (λ (rows : List (Vec Bool Global)). Shows source c.args.stimulus.now.cycles rows) (sym c.deref.ensures.value) c.in_ok-wanted.ensures in
     let made = c.in_ok-runner.ensures in
     let mid = c.run_on-before.new.runner in
-    let fork : Fork = record { cycle = c.min-first.result; stored = c.deref-2.result; before = c.run_on-before.result } in
-    let now = still file c.in_ok-runner.runner.sim mid.sim c.run_on-before.ensures.netlist made.simulates in
-    whole_tally file source task mid c.count_cells.new.runner fork c.args.cycle c.count_cells.result now
-    (begins file task c.in_ok-runner.runner mid fork c.args.cycle made c.run_on-before.ensures (c.deref-2.ensures.value ∙ (c.copy_from_slice.ensures.items ∙ c.stored-2.ensures)) (c.min-first.ensures ∙ ap (λ (n : ℕ). min c.args.cycle n) c.cycles.ensures.count))
+    let behind = c.meetings_behind.new.runner in
+    let keeps = c.in_ok-meetings.ensures in
+    let fork : Fork = record { cycle = c.min-first.result; stored = c.deref-2.result; before = c.run_on-before.result; meetings = c.deref-3.result } in
+    let then = still file c.in_ok-runner.runner.sim mid.sim c.run_on-before.ensures.netlist made.simulates in
+    let now = still file mid.sim behind.sim keeps.netlist then in
+    let stored : c.deref-2.result.now ≡ mid.sim.stored = c.deref-2.ensures.value ∙ (c.in_ok-stored.ensures.items_if_clones_equal (λ x y h. h) ∙ c.stored.ensures) in
+    let meetings : All (IsMeeting task made.simulates.ordered.model) c.deref-3.result.now = subst (All (IsMeeting task made.simulates.ordered.model)) (sym c.deref-3.ensures.value) (keeps.kept file then) in
+    whole_tally file source task behind c.count_cells.new.runner fork c.args.cycle c.count_cells.result now
+    (begins file task c.in_ok-runner.runner mid fork c.args.cycle made c.run_on-before.ensures stored meetings (c.min-first.ensures ∙ ap (λ (n : ℕ). min c.args.cycle n) c.cycles.ensures.count))
     c.count_cells.ensures shows outputs
