@@ -1,0 +1,4 @@
+pub mod SettingsBound
+pub mod CellCount
+pub mod GuardShape
+pub mod TallyText
