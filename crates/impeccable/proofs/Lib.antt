@@ -5,6 +5,9 @@ pub mod FlatLemmas
 pub mod CodeLemmas
 pub mod GuardLemmas
 pub mod OrderedLemmas
+pub mod StimulusLemmas
+pub mod CampaignLemmas
+pub mod DemoLemmas
 pub mod SimLemmas
 pub mod AuditLemmas
 pub mod OutcomeLemmas

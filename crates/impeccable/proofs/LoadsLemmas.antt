@@ -127,6 +127,14 @@ load-stops-tested A old new name most asks WriteFault h = absurd h
 pub held-loaded : (old : FilesSeen) (name : List ℕ) (bytes : List ℕ) (P : List ℕ → Type 0) → (IsSome old.told → bytes_at old.told name ≡ Some bytes) → P bytes → WhereHeld old name P
 held-loaded old name bytes P at h = λ known. subst (λ seen. IsSomeAnd seen P) (sym (at known)) h
 
+-- what holds of bytes that are short enough
+pub held-short : (old : FilesSeen) (name : List ℕ) (most : ℕ) (P : List ℕ → Type 0) → WhereHeld old name (λ bytes. (length bytes ≤ most) × P bytes) → WhereHeld old name P
+held-short old name most P h = λ known. of-bytes (bytes_at old.told name) (h known)
+  where
+    of-bytes : (seen : Option (List ℕ)) → IsSomeAnd seen (λ bytes. (length bytes ≤ most) × P bytes) → IsSomeAnd seen P
+    of-bytes None h = h
+    of-bytes (Some bytes) h = h.1
+
 -- what the test of the bytes refuses, as a fault of a layer
 pub fault-stops-tested : (A F : Type 0) (old new : FilesSeen) (name : List ℕ) (most : ℕ) (asks : List ℕ → Test A) (bytes : List ℕ) (told : F → Refusal) (fault : Option F) (answer : Answer) → length bytes ≤ most → (IsSome old.told → bytes_at old.told name ≡ Some bytes)
     → ((f : F) → fault ≡ Some f → (asks bytes).Refuses (told f)) → ((f : F) → IsOfContents (told f)) → answer ≡ fault_answer F told fault → StopsLoad A old name most asks answer new

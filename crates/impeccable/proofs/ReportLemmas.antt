@@ -6,17 +6,17 @@ use Rattle.netlist_spec.specs.Covers.{has_bit}
 use Rattle.netlist_spec.specs.Statements.{bit_char}
 use Rattle.impeccable.specs.declared.code.Report.{Report}
 use Rattle.guard_spec.specs.Codes.{Code, bits_of, data_places}
-use Rattle.program_spec.specs.Printed.{IsReport, bits_text, report_text}
-use Rattle.impeccable.specs.Code.{Measures, number_text, report_lines, size_text, word_line}
+use Rattle.program_spec.specs.Printed.{IsReport, bits_text, number_line, report_text}
+use Rattle.impeccable.specs.Code.{Measures, report_lines, size_text, word_line}
 
 regroup : (s d w b z x y : List ℕ) → ((((s ++ d) ++ ((w ++ b) ++ z)) ++ x) ++ y) ≡ (((((s ++ d) ++ w) ++ b) ++ z) ++ x) ++ y
 regroup s d w b z x y = simp append_assoc
 
-lines-of : (n k d w x y : ℕ) → (((size_text n k ++ number_text (codes "distance ") d) ++ word_line k w) ++ number_text (codes "detects ") x) ++ number_text (codes "corrects ") y ≡ (((((size_text n k ++ number_text (codes "distance ") d) ++ codes "word ") ++ bits_text (bits_of k w)) ++ 10 ∷ []) ++ number_text (codes "detects ") x) ++ number_text (codes "corrects ") y
-lines-of n k d w x y = regroup (size_text n k) (number_text (codes "distance ") d) (codes "word ") (bits_text (bits_of k w)) (10 ∷ []) (number_text (codes "detects ") x) (number_text (codes "corrects ") y)
+lines-of : (n k d w x y : ℕ) → (((size_text n k ++ number_line (codes "distance") d) ++ word_line k w) ++ number_line (codes "detects") x) ++ number_line (codes "corrects") y ≡ (((((size_text n k ++ number_line (codes "distance") d) ++ codes "word ") ++ bits_text (bits_of k w)) ++ 10 ∷ []) ++ number_line (codes "detects") x) ++ number_line (codes "corrects") y
+lines-of n k d w x y = regroup (size_text n k) (number_line (codes "distance") d) (codes "word ") (bits_text (bits_of k w)) (10 ∷ []) (number_line (codes "detects") x) (number_line (codes "corrects") y)
 
 same-report : (code : Code) (n k d w x y : ℕ) → n ≡ data_places code + code.columns → k ≡ data_places code → x ≡ d - 1 → y ≡ (d - 1) / 2
-    → (((((size_text n k ++ number_text (codes "distance ") d) ++ codes "word ") ++ bits_text (bits_of k w)) ++ 10 ∷ []) ++ number_text (codes "detects ") x) ++ number_text (codes "corrects ") y ≡ report_text code d (bits_of (data_places code) w)
+    → (((((size_text n k ++ number_line (codes "distance") d) ++ codes "word ") ++ bits_text (bits_of k w)) ++ 10 ∷ []) ++ number_line (codes "detects") x) ++ number_line (codes "corrects") y ≡ report_text code d (bits_of (data_places code) w)
 same-report code n k d w x y hn hk hx hy = rw (hn, hk, hx, hy) refl
 
 pub lines-are : (code : Code) (report : Report) → Measures code report → report_lines report ≡ report_text code report.distance (bits_of (data_places code) report.least.0)

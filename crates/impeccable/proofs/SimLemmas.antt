@@ -15,9 +15,6 @@ use Rattle.netlist_spec.specs.SourceRun.{Bits, Stream}
 use Rattle.netlist_spec.specs.Values.{Forced}
 use Rattle.stimulus_spec.specs.Stimulus.{ScriptFault, bad_script, no_such_cell, more_than_sixteen, script_of, stimulus_of}
 use Rattle.line_order.specs.Faults.{IsFault}
-use Rattle.sim_text.specs.declared.fault.StimFault.{StimFault}
-use Rattle.sim_text.specs.declared.fault.StimFault.TheVariants.{BadStimulus, NoMemory as NoStimulus}
-use Rattle.sim_text.specs.Faults.{IsStimFault, fault_of as line_of}
 use Rattle.sim_text.specs.Rows.{Rows}
 use Rattle.fault_script.specs.declared.fault.ScriptFault.{ScriptFault as ToldFault}
 use Rattle.fault_script.specs.declared.fault.ScriptFault.TheVariants.{BadScript, NoSuchCell, MoreThanSixteen, NoMemory as NoScript}
@@ -28,10 +25,10 @@ use Rattle.fault_sim.specs.HasRun.{HasRun}
 use Rattle.fault_sim.specs.Simulated.{CycleUnder, HasModel, Simulated, Simulates}
 use Rattle.program_spec.specs.Commands.{sim, netlist_limit, other_limit}
 use Rattle.program_spec.specs.Printed.{IsRunText, bits_text, outputs_text, run_text}
-use Rattle.program_spec.specs.Refusals.{bad_script_line, bad_stimulus, out_of_order}
+use Rattle.program_spec.specs.Refusals.{bad_script_line, out_of_order}
 use Rattle.program_spec.specs.ErrorLines.{Answer, refused}
 use Rattle.program_spec.specs.Walk.{Walk, end, load, test}
-use Rattle.program_spec.specs.Steps.{gives, reading, script_in, stimulus_in}
+use Rattle.program_spec.specs.Steps.{gives, reading, script_in}
 use Rattle.program_spec.specs.Verdict.{IsSimText, walk_of}
 use Rattle.impeccable.specs.declared.ended.Stop.{Stop}
 use Rattle.impeccable.specs.declared.sim.Simulation.{Simulation}
@@ -42,31 +39,21 @@ use Rattle.impeccable.specs.Steps.{Passed, Stops}
 use Rattle.impeccable.proofs.OrderedLemmas.{IsHeld, of_file, file-read, file-ordered, file-unread, file-unordered, reads}
 use Rattle.impeccable.proofs.LoadsLemmas.{held-earlier, held-loaded, stops-earlier, tested-passes, tested-stops}
 use Rattle.impeccable.proofs.StepLemmas.{starts}
+use Rattle.impeccable.proofs.StimulusLemmas.{of_stimulus}
 
--- what is left of the walk behind the order of lines and behind the stimulus
+-- what is left of the walk behind the stimulus and behind the order of lines
 abbrev pub of_script : List ℕ → Model → Walk
 of_script script m = load script other_limit (λ lines. test (List Fault) (script_in m lines) (λ faults. end))
 
-abbrev pub of_stimulus : List ℕ → List ℕ → Model → Walk
-of_stimulus stimulus script m = load stimulus other_limit (λ text. test Stream (stimulus_in m text) (λ xs. of_script script m))
+abbrev pub of_order : List ℕ → List ℕ → Model → Walk
+of_order stimulus script m = of_stimulus stimulus (of_script script m) m
 
 -- what was made of the netlist stands for what its test finds
-pub read : (n s t : List ℕ) (old : FilesSeen) (file : File) → (found : File) × (file ≡ found) × IsHeld old n found → Passed old (walk_of (sim n s t)) (of_file (of_stimulus s t) file)
-read n s t old file made = file-read (sim n s t) n (of_stimulus s t) old file (starts old (walk_of (sim n s t))) (reads n old file made)
+pub read : (n s t : List ℕ) (old : FilesSeen) (file : File) → (found : File) × (file ≡ found) × IsHeld old n found → Passed old (walk_of (sim n s t)) (of_file (of_order s t) file)
+read n s t old file made = file-read (sim n s t) n (of_order s t) old file (starts old (walk_of (sim n s t))) (reads n old file made)
 
-pub in-order : (n s t : List ℕ) (old : FilesSeen) (file : File) (ordered : IsOrdered file) → Passed old (walk_of (sim n s t)) (of_file (of_stimulus s t) file) → Passed old (walk_of (sim n s t)) (of_stimulus s t ordered.model)
-in-order n s t old file ordered p = file-ordered (sim n s t) n (of_stimulus s t) old file ordered p
-
--- the stimulus of a later load, for as many data inputs as the model has
-pub drives : (s : List ℕ) (old mid : FilesSeen) (inputs : ℕ) (m : Model) (cycles : Stream) → IsLater old mid → inputs ≡ length (data_inputs m) → (found : Stream) × (cycles ≡ found) × WhereHeld mid s (λ bytes. (length bytes ≤ other_limit) × (stimulus_of inputs bytes ≡ Ok found))
-    → WhereHeld old s (λ bytes. (length bytes ≤ other_limit) × (stimulus_of (length (data_inputs m)) bytes ≡ Ok cycles))
-drives s old mid inputs m cycles later is (found, same, held) =
-    held-earlier old mid s (λ bytes. (length bytes ≤ other_limit) × (stimulus_of (length (data_inputs m)) bytes ≡ Ok cycles)) later
-    (subst (λ k. WhereHeld mid s (λ bytes. (length bytes ≤ other_limit) × (stimulus_of k bytes ≡ Ok cycles))) is
-    (subst (λ (ys : Stream). WhereHeld mid s (λ bytes. (length bytes ≤ other_limit) × (stimulus_of inputs bytes ≡ Ok ys))) (sym same) held))
-
-pub driven : (n s t : List ℕ) (old : FilesSeen) (m : Model) (xs : Stream) → Passed old (walk_of (sim n s t)) (of_stimulus s t m) → WhereHeld old s (λ bytes. (length bytes ≤ other_limit) × (stimulus_of (length (data_inputs m)) bytes ≡ Ok xs)) → Passed old (walk_of (sim n s t)) (of_script t m)
-driven n s t old m xs p held = tested-passes old (walk_of (sim n s t)) s other_limit Stream (stimulus_in m) (λ ys. of_script t m) xs p held
+pub in-order : (n s t : List ℕ) (old : FilesSeen) (file : File) (ordered : IsOrdered file) → Passed old (walk_of (sim n s t)) (of_file (of_order s t) file) → Passed old (walk_of (sim n s t)) (of_order s t ordered.model)
+in-order n s t old file ordered p = file-ordered (sim n s t) n (of_order s t) old file ordered p
 
 -- the script of a later load, for the cells of the model
 pub faulty : (t : List ℕ) (old mid : FilesSeen) (cells : List Name) (m : Model) (faults : List Fault) → IsLater old mid → cells ≡ cell_nets m → WhereHeld mid t (λ bytes. (length bytes ≤ other_limit) × (script_of cells bytes ≡ Ok faults))
@@ -81,17 +68,10 @@ scripted n s t old m faults p held = tested-passes old (walk_of (sim n s t)) t o
 -- ---- what stops it
 
 pub unread : (n s t : List ℕ) (old new : FilesSeen) (stop : Stop) → StopsLoad File old n netlist_limit reading (stop_answer stop) new → Stops (sim n s t) old stop new
-unread n s t old new stop h = file-unread (sim n s t) n (of_stimulus s t) old new stop (starts old (walk_of (sim n s t))) h
+unread n s t old new stop h = file-unread (sim n s t) n (of_order s t) old new stop (starts old (walk_of (sim n s t))) h
 
-pub out-of-order : (n s t : List ℕ) (old new : FilesSeen) (file : File) (fault : Option OrderFault) (stop : Stop) → Passed old (walk_of (sim n s t)) (of_file (of_stimulus s t) file) → IsFault (order_fault file) fault → stop_answer stop ≡ fault_answer OrderFault out_of_order fault → Stops (sim n s t) old stop new
-out-of-order n s t old new file fault stop p h = file-unordered (sim n s t) n (of_stimulus s t) old new file fault stop p h
-
-pub not-driven : (n s t : List ℕ) (old mid new : FilesSeen) (inputs : ℕ) (m : Model) (stop : Stop) → Passed old (walk_of (sim n s t)) (of_stimulus s t m) → IsLater old mid → inputs ≡ length (data_inputs m)
-    → StopsLoad Stream mid s other_limit (λ bytes. gives Stream ℕ (stimulus_of inputs bytes) bad_stimulus) (stop_answer stop) new → Stops (sim n s t) old stop new
-not-driven n s t old mid new inputs m stop p later is h =
-    tested-stops (sim n s t) old new s other_limit Stream (stimulus_in m) (λ xs. of_script t m) stop p
-    (stops-earlier Stream old mid new s other_limit (stimulus_in m) (stop_answer stop) later
-    (subst (λ k. StopsLoad Stream mid s other_limit (λ bytes. gives Stream ℕ (stimulus_of k bytes) bad_stimulus) (stop_answer stop) new) is h))
+pub out-of-order : (n s t : List ℕ) (old new : FilesSeen) (file : File) (fault : Option OrderFault) (stop : Stop) → Passed old (walk_of (sim n s t)) (of_file (of_order s t) file) → IsFault (order_fault file) fault → stop_answer stop ≡ fault_answer OrderFault out_of_order fault → Stops (sim n s t) old stop new
+out-of-order n s t old new file fault stop p h = file-unordered (sim n s t) n (of_order s t) old new file fault stop p h
 
 pub not-scripted : (n s t : List ℕ) (old mid new : FilesSeen) (cells : List Name) (m : Model) (stop : Stop) → Passed old (walk_of (sim n s t)) (of_script t m) → IsLater old mid → cells ≡ cell_nets m
     → StopsLoad (List Fault) mid t other_limit (λ bytes. gives (List Fault) ScriptFault (script_of cells bytes) bad_script_line) (stop_answer stop) new → Stops (sim n s t) old stop new
@@ -99,15 +79,6 @@ not-scripted n s t old mid new cells m stop p later is h =
     tested-stops (sim n s t) old new t other_limit (List Fault) (script_in m) (λ faults. end) stop p
     (stops-earlier (List Fault) old mid new t other_limit (script_in m) (stop_answer stop) later
     (subst (λ (k : List Name). StopsLoad (List Fault) mid t other_limit (λ bytes. gives (List Fault) ScriptFault (script_of k bytes) bad_script_line) (stop_answer stop) new) is h))
-
--- the reading of a stimulus
-pub stimulus-stops : (old new : FilesSeen) (name : List ℕ) (inputs : ℕ) (bytes : List ℕ) (fault : StimFault) (answer : Answer) → length bytes ≤ other_limit → (IsSome old.told → bytes_at old.told name ≡ Some bytes) → IsStimFault (stimulus_of inputs bytes) fault → answer ≡ fault_answer ℕ bad_stimulus (line_of fault)
-    → StopsLoad Stream old name other_limit (λ b. gives Stream ℕ (stimulus_of inputs b) bad_stimulus) answer new
-stimulus-stops old new name inputs bytes (BadStimulus line) answer short at h is =
-    subst (λ a. StopsLoad Stream old name other_limit (λ b. gives Stream ℕ (stimulus_of inputs b) bad_stimulus) a new) (sym is)
-    (inr (tt, held-loaded old name bytes (λ b. (length b ≤ other_limit) × ((f : ℕ) × (stimulus_of inputs b ≡ Err f) × (bad_stimulus line ≡ bad_stimulus f))) at (short, (line, h, refl))))
-stimulus-stops old new name inputs bytes NoStimulus answer short at h is =
-    subst (λ a. StopsLoad Stream old name other_limit (λ b. gives Stream ℕ (stimulus_of inputs b) bad_stimulus) a new) (sym is) tt
 
 -- the reading of a script
 abbrev Refused : (List ℕ → Result (List Fault) ScriptFault) → ScriptFault → List ℕ → Type 0

@@ -4,7 +4,7 @@ use Rattle.std.specs.Io.KnownBytes.{Appends}
 use Rattle.imp_io.specs.Counts.{Rose, RoseBy, Stayed}
 use Rattle.imp_io.specs.Files.{FilesSeen, bytes_at, own_count}
 use Rattle.imp_io.specs.Sink.{SinkSeen, AppendsPrefix}
-use Rattle.program_spec.specs.Commands.{Command}
+use Rattle.program_spec.specs.Commands.{Command, demo}
 use Rattle.program_spec.specs.Refusals.{Refusal, file_too_long}
 use Rattle.program_spec.specs.Walk.{Contents, ComesToLoad, HasLoad, passes, refused as refuses}
 use Rattle.program_spec.specs.Verdict.{walk_of, IsVerdict, IsDoneText, MayFind, IsFoundText, IsTextFor}
@@ -13,6 +13,7 @@ use Rattle.refusals.specs.declared.refusal.Refusal.{Refusal as Told}
 use Rattle.impeccable.specs.declared.outcome.Outcome.{Outcome}
 use Rattle.impeccable.specs.declared.outcome.Outcome.TheVariants.{Done, Found, Refused, NoMemory}
 use Rattle.refusals.specs.Refusal.{refusal_of}
+use Rattle.impeccable.specs.Demo.{EndsDemo}
 
 -- where the contents are known, this holds of them
 abbrev pub WhereTold : FilesSeen → (Contents → Type 0) → Type 0
@@ -92,3 +93,8 @@ abbrev pub RefusesThere : Command → FilesSeen → FilesSeen → Outcome → Ty
 RefusesThere command old new outcome =
     WhereTold old (λ contents. (refusal : Refusal) → IsVerdict command contents (refuses refusal)
     → Stayed old.faults new.faults → IsRefusal outcome refusal ⊎ (outcome ≡ NoMemory))
+
+-- Over any files, told or not, a demo reads none and has no other outcome than these.
+abbrev pub AnswersDemo : Command → FilesSeen → FilesSeen → SinkSeen → SinkSeen → Outcome → Type 0
+AnswersDemo (demo size) old new out out' outcome = (new ≡ old) × EndsDemo size out out' outcome
+AnswersDemo _ old new out out' outcome = ⊤

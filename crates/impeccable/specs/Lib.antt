@@ -2,6 +2,7 @@ pub mod Command
 pub mod Outcome
 pub mod Ended
 pub mod Says
+pub mod Demo
 pub mod Answers
 pub mod Steps
 pub mod Flat
@@ -10,3 +11,5 @@ pub mod Code
 pub mod Loads
 pub mod Sim
 pub mod Audit
+pub mod Guarded
+pub mod Campaign

@@ -1,5 +1,5 @@
 // The command `audit NETLIST`.
-ghost use Rattle.std.specs.Prelude.{◌≡◌, ◌≤◌, [], codes, filter_map, length, map, slice_index_or, IfOk};
+ghost use Rattle.std.specs.Prelude.{◌≡◌, ◌≤◌, [], filter_map, length, map, slice_index_or, IfOk};
 ghost use Rattle.imp_io.specs.Blocks.{Gives};
 ghost use Rattle.imp_io.specs.Files.{IsLater};
 ghost use Rattle.imp_io.specs.Sink.{Puts};
@@ -10,20 +10,20 @@ ghost use Rattle.blif_read.specs.declared.file.Located.{Located as ReadLocated};
 ghost use Rattle.blif_read.specs.View.{model_of, name_at};
 ghost use Rattle.independence_audit.specs.Known.{output_of as output_of_read};
 ghost use Rattle.program_spec.specs.Commands.{audit as audit_command};
-ghost use Rattle.program_spec.specs.Printed.{bit_text, bits_lines, independent_text, number_line};
+ghost use Rattle.program_spec.specs.Printed.{bit_text, bits_lines, independent_text};
 ghost use Rattle.impeccable.specs.Answers.{Answers, KeepsOwn};
 ghost use Rattle.impeccable.specs.Audit.{IsReady, audited_success, audited_text, line_text, shared_text, success_of as success_of_audit};
 ghost use Rattle.impeccable.specs.Ended.{answer_of, part_answer};
 ghost use Rattle.impeccable.specs.Steps.{Prepares};
 
 use crate::ended::{Ended, Stop, Success};
+use crate::lines::put_number;
 use crate::netlist::load_netlist;
 use blif_read::{Located, Model, NameId, Names, Statement};
 use gate_net::Bit;
 use imp_io::{Blocks, Files, Sink, SinkFault};
 use independence_audit::audit;
 use independence_audit::types::{Audit, CellId};
-use itoa::Buffer;
 use std::alloc::{AllocError, Global};
 
 // A netlist, the nets of its latches by number, and what an audit says of it.
@@ -194,7 +194,7 @@ impl Audited {
         requires few { length bits.now ≤ length (cell_nets (model_of self.now.model)) }
         ensures { Gives O.seen out.old (independent_text (model_of self.now.model) (map bit_of bits.now)) out.new }
     {
-        put_count(bits.len(), out);
+        put_number(b"independent", bits.len() as u64, out);
         self.put_lines(bits, out);
     }
 
@@ -231,12 +231,4 @@ impl Audited {
             }
         }
     }
-}
-
-// The line of the number of cells.
-fn put_count<O: Sink>(cells: usize, out: &mut Blocks<'_, O>)
-    ensures { Gives O.seen out.old (number_line (codes "independent") cells) out.new }
-{
-    let mut digits = Buffer::new();
-    out.put_all(&[b"independent ", digits.format(cells).as_bytes(), b"\n"]);
 }

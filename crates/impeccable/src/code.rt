@@ -9,11 +9,12 @@ ghost use Rattle.netlist_spec.specs.Statements.{bit_char};
 ghost use Rattle.program_spec.specs.Commands.{code as code_command};
 ghost use Rattle.program_spec.specs.Printed.{bits_text};
 ghost use Rattle.impeccable.specs.Answers.{Answers, KeepsOwn};
-ghost use Rattle.impeccable.specs.Code.{Measures, number_text, report_lines, size_text, word_line};
+ghost use Rattle.impeccable.specs.Code.{Measures, report_lines, size_text, word_line};
 ghost use Rattle.impeccable.specs.Ended.{answer_of, is_done, part_answer};
 ghost use Rattle.impeccable.specs.Steps.{Prepares};
 
 use crate::ended::{Ended, Stop, Success};
+use crate::lines::put_number;
 use crate::settings_file::load_settings;
 use arrayvec::ArrayVec;
 use block_code::{Code, Word};
@@ -97,10 +98,10 @@ fn put_report<O: Sink>(report: &Report, out: &mut Blocks<'_, O>)
     ensures { Gives O.seen out.old (report_lines report.now) out.new }
 {
     put_size(report.places, report.data_places, out);
-    put_number(b"distance ", report.distance, out);
+    put_number(b"distance", u64::from(report.distance), out);
     put_word(report.least, report.data_places, out);
-    put_number(b"detects ", report.detects, out);
-    put_number(b"corrects ", report.corrects, out);
+    put_number(b"detects", u64::from(report.detects), out);
+    put_number(b"corrects", u64::from(report.corrects), out);
 }
 
 // The line of the numbers of places and of data places.
@@ -109,15 +110,7 @@ fn put_size<O: Sink>(n: u8, k: u8, out: &mut Blocks<'_, O>)
 {
     let mut digits = Buffer::new();
     out.put_all(&[b"code ", digits.format(n).as_bytes()]);
-    put_number(b" ", k, out);
-}
-
-// A line of a text and a number.
-fn put_number<O: Sink>(front: &[u8], n: u8, out: &mut Blocks<'_, O>)
-    ensures { Gives O.seen out.old (number_text front.now n) out.new }
-{
-    let mut digits = Buffer::new();
-    out.put_all(&[front, digits.format(n).as_bytes(), b"\n"]);
+    put_number(b"", u64::from(k), out);
 }
 
 fn put_word<O: Sink>(word: Word, places: u8, out: &mut Blocks<'_, O>)

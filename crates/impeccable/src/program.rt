@@ -3,16 +3,19 @@ ghost use Rattle.std.specs.Prelude.{◌≡◌, ◌↔◌, map, string_bytes, IfS
 ghost use Rattle.imp_io.specs.Files.{IsLater};
 ghost use Rattle.program_spec.specs.Commands.{command_of};
 ghost use Rattle.program_spec.specs.ErrorLines.{Answer, usage};
-ghost use Rattle.impeccable.specs.Answers.{Answers, FindsThere, IsComplete, KeepsOwn, RefusesThere};
-ghost use Rattle.impeccable.specs.Command.{as_asked};
+ghost use Rattle.impeccable.specs.Answers.{Answers, AnswersDemo, FindsThere, IsComplete, KeepsOwn, RefusesThere};
+ghost use Rattle.impeccable.specs.Command.{CanPerform, as_asked};
+ghost use Rattle.impeccable.specs.declared.outcome.Outcome.{Outcome as AnyOutcome};
 ghost use Rattle.impeccable.specs.Ended.{answer_of};
 ghost use Rattle.impeccable.specs.Outcome.{IsAnswer};
 ghost use Rattle.impeccable.specs.Says.{Says};
 
 use crate::Outcome;
 use crate::audit::write_audit;
+use crate::campaign_run::write_campaign;
 use crate::code::report_code;
 use crate::command::{Command, read_command};
+use crate::demo::write_demo;
 use crate::ended::{Ended, Stop, outcome_of};
 use crate::error_line::tell;
 use crate::flat::write_flat;
@@ -22,8 +25,8 @@ use imp_io::{Files, Sink};
 use std::alloc::Global;
 
 /// What the words ask for, over any files and sinks. The words are those of a command line without the program's
-/// own name: so far `flat NETLIST`, `code SETTINGS`, `guard SETTINGS NETLIST`,
-/// `sim NETLIST STIMULUS SCRIPT` and `audit NETLIST`.
+/// own name: `flat NETLIST`, `code SETTINGS`, `guard SETTINGS NETLIST`, `sim NETLIST STIMULUS SCRIPT`, `audit NETLIST`,
+/// `campaign SETTINGS NETLIST STIMULUS CYCLE` with a cycle of 1 to 6 digits, or `demo N` with a number from 1 to 64.
 pub fn run<F: Files, O: Sink, E: Sink>(
     alloc: Global,
     words: &[String],
@@ -50,6 +53,10 @@ pub fn run<F: Files, O: Sink, E: Sink>(
     ensures refuses { IfSome (command_of (map string_bytes words.now)) (λ command.
         RefusesThere command (F.seen files.old) (F.seen files.new) result) }
 
+    // A demo reads no file: what it says holds whatever is known of them.
+    ensures demo { IfSome (command_of (map string_bytes words.now)) (λ command.
+        AnswersDemo command (F.seen files.old) (F.seen files.new) (O.seen out.old) (O.seen out.new) result) }
+
     // Names and bytes stay as they were, and no count falls.
     ensures later { IsLater (F.seen files.old) (F.seen files.new) }
 
@@ -71,9 +78,12 @@ fn perform<'a, F: Files, O: Sink>(
     files: &mut F,
     out: &mut O,
 ) -> Ended<'a>
+    requires { CanPerform command }
     ensures answers { Answers (as_asked command.entry) (F.seen files.old) (F.seen files.new) (O.seen out.old) (O.seen out.new) (answer_of result) }
     ensures own { KeepsOwn (F.seen files.old) (F.seen files.new) (answer_of result) }
     ensures later { IsLater (F.seen files.old) (F.seen files.new) }
+    ensures demo { (outcome : AnyOutcome) → IsAnswer outcome (answer_of result)
+        → AnswersDemo (as_asked command.entry) (F.seen files.old) (F.seen files.new) (O.seen out.old) (O.seen out.new) outcome }
 {
     match command {
         Command::Flat { netlist } => write_flat(alloc, netlist, files, out),
@@ -85,5 +95,12 @@ fn perform<'a, F: Files, O: Sink>(
             script,
         } => write_run(alloc, netlist, stimulus, script, files, out),
         Command::Audit { netlist } => write_audit(alloc, netlist, files, out),
+        Command::Campaign {
+            settings,
+            netlist,
+            stimulus,
+            cycle,
+        } => write_campaign(alloc, settings, netlist, stimulus, cycle, files, out),
+        Command::Demo { size } => write_demo(alloc, size, out),
     }
 }

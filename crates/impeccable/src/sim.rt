@@ -4,12 +4,12 @@ ghost use Rattle.imp_io.specs.Blocks.{Gives};
 ghost use Rattle.imp_io.specs.Files.{IsLater};
 ghost use Rattle.imp_io.specs.Sink.{Puts};
 ghost use Rattle.netlist_spec.specs.Runs.{Fault};
-ghost use Rattle.netlist_spec.specs.SourceRun.{Bits, Stream};
+ghost use Rattle.netlist_spec.specs.SourceRun.{Bits};
 ghost use Rattle.netlist_spec.specs.Statements.{bit_char};
-ghost use Rattle.stimulus_spec.specs.Stimulus.{script_of, stimulus_of};
+ghost use Rattle.stimulus_spec.specs.Stimulus.{script_of};
 ghost use Rattle.program_spec.specs.Commands.{other_limit, sim as sim_command};
 ghost use Rattle.program_spec.specs.Printed.{bits_text, outputs_text, run_text};
-ghost use Rattle.program_spec.specs.Refusals.{bad_script_line, bad_stimulus};
+ghost use Rattle.program_spec.specs.Refusals.{bad_script_line};
 ghost use Rattle.program_spec.specs.Steps.{gives};
 ghost use Rattle.fault_script.specs.Scripts.{HasFaults};
 ghost use Rattle.impeccable.specs.Answers.{Answers, KeepsOwn};
@@ -21,13 +21,12 @@ ghost use Rattle.impeccable.specs.Steps.{PreparesEach};
 use crate::ended::{Ended, Stop, Success};
 use crate::load::load_named;
 use crate::netlist::load_netlist;
+use crate::stimulus_file::load_stimulus;
 use fault_script::Script;
 use fault_sim::{Sim, cycles_make_a_run};
 use imp_io::{Blocks, Files, Sink, SinkFault};
 use sim_text::Stimulus;
 use std::alloc::Global;
-
-const LONGEST_STIMULUS: usize = 16_777_216;
 
 const LONGEST_SCRIPT: usize = 16_777_216;
 
@@ -85,23 +84,6 @@ fn prepare<'a, F: Files>(
         inputs,
         outputs,
     })
-}
-
-// Loads and reads the stimulus of that name, for so many data inputs.
-fn load_stimulus<'a, F: Files>(
-    alloc: Global,
-    files: &mut F,
-    stimulus: &'a str,
-    inputs: u32,
-) -> Result<Stimulus, Stop<'a>>
-    ensures stream { LoadsTested Stream (F.seen files.old) stimulus.now other_limit (λ bytes. gives _ _ (stimulus_of inputs bytes) bad_stimulus) (λ made found. made.cycles ≡ found) result (F.seen files.new) }
-    ensures width { IfOk result (λ made. made.inputs ≡ inputs) }
-    ensures own { KeepsOwn (F.seen files.old) (F.seen files.new) (part_answer result) }
-    ensures later { IsLater (F.seen files.old) (F.seen files.new) }
-{
-    let bytes = load_named(alloc, files, stimulus, LONGEST_STIMULUS)?;
-    let stimulus = Stimulus::read(alloc, &bytes, inputs)?;
-    Ok(stimulus)
 }
 
 // Loads and reads the script of that name, for the cells of a simulator.

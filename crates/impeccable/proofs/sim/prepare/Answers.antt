@@ -3,12 +3,14 @@ use Rattle.std.proofs.Common.{refl, ap, ◌∙◌, length}
 use Rattle.std.proofs.lemmas.Result.{err_from_is_err_and}
 use Rattle.imp_io.proofs.LoadLemmas.{IsLater-trans}
 use Rattle.blif_read.specs.View.{file_of}
+use Rattle.program_spec.specs.Commands.{sim}
 use Rattle.program_spec.specs.Walk.{passes}
 use Rattle.impeccable.specs.Ended.{stop_answer}
 use Rattle.impeccable.proofs.LoadsLemmas.{own-earlier}
 use Rattle.impeccable.proofs.OwnLemmas.{keeps}
 use Rattle.impeccable.proofs.OrderedLemmas.{is-main, reads}
-use Rattle.impeccable.proofs.SimLemmas.{driven, drives, faulty, in-order, is-sim-text, not-driven, not-scripted, out-of-order, read, scripted, unread}
+use Rattle.impeccable.proofs.SimLemmas.{faulty, in-order, is-sim-text, not-scripted, of_script, out-of-order, read, scripted, unread}
+use Rattle.impeccable.proofs.StimulusLemmas.{driven, drives, not-driven}
 use Rattle.impeccable.proofs.sim.prepare.Goals as goal
 
 pub returns-in_err-file-clause-prepares : goal.returns-in_err-file-clause-prepares
@@ -32,7 +34,7 @@ returns-in_err-stimulus-clause-prepares g c =
     let simulates = c.in_ok-sim.ensures.simulates in
     let kept = read c.args.netlist.now c.args.stimulus.now c.args.script.now old file c.in_ok-file.ensures.file in
     let ordered = in-order c.args.netlist.now c.args.stimulus.now c.args.script.now old file simulates.ordered kept in
-    rw (p.1, p.2) (not-driven c.args.netlist.now c.args.stimulus.now c.args.script.now old (g.F.Files.seen c.load_netlist.new.files) (g.F.Files.seen c.load_stimulus.new.files) c.inputs.result simulates.ordered.model _ ordered c.in_ok-file.ensures.later (c.inputs.ensures ∙ ap length simulates.model.inputs) c.in_err-stimulus.ensures.stream)
+    rw (p.1, p.2) (not-driven (sim c.args.netlist.now c.args.stimulus.now c.args.script.now) c.args.stimulus.now (of_script c.args.script.now simulates.ordered.model) old simulates.ordered.model (g.F.Files.seen c.load_netlist.new.files) (g.F.Files.seen c.load_stimulus.new.files) c.inputs.result _ ordered c.in_ok-file.ensures.later (c.inputs.ensures ∙ ap length simulates.model.inputs) c.in_err-stimulus.ensures.stream)
 
 pub returns-in_err-script-clause-prepares : goal.returns-in_err-script-clause-prepares
 returns-in_err-script-clause-prepares g c =
@@ -47,7 +49,7 @@ returns-in_err-script-clause-prepares g c =
     let kept = read c.args.netlist.now c.args.stimulus.now c.args.script.now old file c.in_ok-file.ensures.file in
     let ordered = in-order c.args.netlist.now c.args.stimulus.now c.args.script.now old file simulates.ordered kept in
     let held = drives c.args.stimulus.now old mid c.inputs.result m xs c.in_ok-file.ensures.later (c.inputs.ensures ∙ ap length simulates.model.inputs) c.in_ok-stimulus.ensures.stream in
-    let drove = driven c.args.netlist.now c.args.stimulus.now c.args.script.now old m xs ordered held in
+    let drove = driven (sim c.args.netlist.now c.args.stimulus.now c.args.script.now) c.args.stimulus.now (of_script c.args.script.now m) old m xs ordered held in
     rw (p.1, p.2) (not-scripted c.args.netlist.now c.args.stimulus.now c.args.script.now old (g.F.Files.seen c.load_stimulus.new.files) (g.F.Files.seen c.load_script.new.files) c.in_ok-sim.sim.cells m _ drove later simulates.model.cells c.in_err-script.ensures.faults)
 
 pub returns-clause-prepares : goal.returns-clause-prepares
@@ -64,7 +66,7 @@ returns-clause-prepares g c = λ known.
     let kept = read c.args.netlist.now c.args.stimulus.now c.args.script.now old file c.in_ok-file.ensures.file in
     let ordered = in-order c.args.netlist.now c.args.stimulus.now c.args.script.now old file simulates.ordered kept in
     let held = drives c.args.stimulus.now old mid c.inputs.result m xs c.in_ok-file.ensures.later (c.inputs.ensures ∙ ap length simulates.model.inputs) c.in_ok-stimulus.ensures.stream in
-    let drove = driven c.args.netlist.now c.args.stimulus.now c.args.script.now old m xs ordered held in
+    let drove = driven (sim c.args.netlist.now c.args.stimulus.now c.args.script.now) c.args.stimulus.now (of_script c.args.script.now m) old m xs ordered held in
     let listed = faulty c.args.script.now old then c.in_ok-sim.sim.cells m said.0 later simulates.model.cells said.2 in
     let passed = scripted c.args.netlist.now c.args.stimulus.now c.args.script.now old m said.0 drove listed in
     (passed.verdict known passes refl, λ text is. is-sim-text _ _ _ file m xs said.0 text (is-main file simulates.ordered) (is file said.0 simulates said.1) (reads c.args.netlist.now old file c.in_ok-file.ensures.file known) (held known) (listed known))

@@ -9,8 +9,8 @@ use Rattle.program_spec.specs.Steps.{gives}
 use Rattle.impeccable.specs.Ended.{stop_answer}
 use Rattle.impeccable.proofs.LoadsLemmas.{held-loaded, load-stops-tested}
 use Rattle.impeccable.proofs.OwnLemmas.{keeps}
-use Rattle.impeccable.proofs.SimLemmas.{stimulus-stops}
-use Rattle.impeccable.proofs.sim.load_stimulus.Goals as goal
+use Rattle.impeccable.proofs.StimulusLemmas.{stimulus-stops}
+use Rattle.impeccable.proofs.stimulus_file.load_stimulus.Goals as goal
 
 pub returns-in_err-bytes-clause-stream : goal.returns-in_err-bytes-clause-stream
 returns-in_err-bytes-clause-stream g c =
